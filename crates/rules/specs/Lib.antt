@@ -1,0 +1,4 @@
+pub mod Components
+pub mod Descriptors
+pub mod Rules
+pub mod Words

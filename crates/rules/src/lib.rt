@@ -1,0 +1,13 @@
+// Steering rules: the components that a packet is matched with, the access
+// descriptor, and a rule of both with its precedence.
+pub mod component;
+pub mod descriptor;
+pub mod rule;
+pub mod words;
+
+pub use component::Component;
+pub use component::Kind;
+pub use descriptor::Descriptor;
+pub use descriptor::Functionality;
+pub use descriptor::Mode;
+pub use rule::Rule;
