@@ -1,4 +1,3 @@
 pub mod Components
 pub mod Descriptors
 pub mod Rules
-pub mod Words

@@ -38,7 +38,7 @@ impl Mode {
 }
 
 // The share that load balancing has under its information k.
-pub(crate) fn share_of(k: u8) -> u8
+pub fn share_of(k: u8) -> u8
     ensures { λ r. ⌜ r ≡ 110 - 10 * k ⌝ }
 {
     110u8.saturating_sub(k.saturating_mul(10))

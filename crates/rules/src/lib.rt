@@ -3,11 +3,11 @@
 pub mod component;
 pub mod descriptor;
 pub mod rule;
-pub mod words;
 
 pub use component::Component;
 pub use component::Kind;
 pub use descriptor::Descriptor;
 pub use descriptor::Functionality;
 pub use descriptor::Mode;
+pub use descriptor::share_of;
 pub use rule::Rule;

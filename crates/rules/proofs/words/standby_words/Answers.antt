@@ -1,6 +1,0 @@
-use mathlib.Core.Path.{sym, ap}
-use Rattle.rules.specs.Words.{standbyWords}
-use Rattle.rules.proofs.words.standby_words.Needs as need
-
-pub returns-then-standby : need.returns-then-standby
-returns-then-standby c = sym (ap standbyWords (c .if-standby .taken))
