@@ -2,11 +2,12 @@
 use mathlib.Core.Path.{_≡_, refl, sym, ap, _∙_}
 use mathlib.Core.List.{List, [], _∷_, _++_, append-assoc}
 use Prim.Native.Nat.{ℕ, zero, suc, _+_, _-_, _*_, _/_, _%_, _^_, _≤_, _<_}
+use native.Mathlib.Nat.{lt-of-lt-of-le, pow-le-pow-right, zero-lt-suc}
 use native.Mathlib.Omega.{arith}
 use native.Mathlib.Numerals.{add-one}
 use lib.ListN.{length, take, drop, getD, set}
-use Rattle.std.specs.shelf.Digits.{number}
-use Rattle.std.proofs.shelf.Digits.{number-push}
+use Rattle.std.specs.shelf.Digits.{number, Under}
+use Rattle.std.proofs.shelf.Digits.{number-lt, number-push}
 use Rattle.std.proofs.shelf.Lists.{drop-set, getD-drop, length-push, length-take-le, nil-from-length, take-all, take-more}
 use Rattle.octets.specs.Numbers.{Octets, be}
 
@@ -51,3 +52,11 @@ be-number (suc k) xs l o =
     let high : number 256 xs / 256 ≡ number 256 (take k xs) = omega arith in
     let low : number 256 xs % 256 ≡ getD xs k 0 = omega arith in
     rw (high, low, be-number k (take k xs) (length-take-le k xs (omega arith)) (octets-take k xs o)) (sym split)
+
+pub under-octets : (xs : List ℕ) → Octets xs → Under 256 xs
+under-octets [] o = tt
+under-octets (x ∷ xs) o = (o 0, under-octets xs (λ i. o (suc i)))
+
+-- k octets are enough for the number
+pub number-small : (k : ℕ) (xs : List ℕ) → length xs ≤ k → Octets xs → number 256 xs < 256 ^ k
+number-small k xs l o = lt-of-lt-of-le (number-lt 256 xs (under-octets xs o)) (pow-le-pow-right (zero-lt-suc 255) l)

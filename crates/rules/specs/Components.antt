@@ -1,10 +1,13 @@
 -- Components: the type of each, and the column of its value.
 use mathlib.Core.Bool.{Bool, true, _&&_}
 use Prim.Native.Nat.{ℕ, _^_}
+use mathlib.Core.List.{List}
 use lib.Dec.{leb, ltb}
+use lib.ListN.{take}
 use Rattle.rules.specs.declared.component.Kind.{Kind}
 use Rattle.rules.specs.declared.component.Kind.the-variants as kind
 use Rattle.rules.specs.declared.component.Component.{Component}
+use Rattle.rules.specs.declared.component.Components.{Components}
 use Rattle.rules.specs.declared.component.Component.the-variants.{MatchAll, Ipv4, Ipv6, Protocol, Port, PortRange, SecurityIndex, ServiceType, FlowLabel}
 
 -- the octet by which a sheet names a type
@@ -45,3 +48,7 @@ inColumn (PortRange low high) = holds 2 low && (holds 2 high && leb low high)
 inColumn (SecurityIndex index) = holds 4 index
 inColumn (ServiceType value mask) = holds 1 value && holds 1 mask
 inColumn (FlowLabel label) = ltb label (2 ^ 20)
+
+-- what an array with a count holds
+abbrev pub listed : Components → List Component
+listed cs = take (cs .count) (cs .array)

@@ -3,8 +3,8 @@ use mathlib.Core.Bool.{Bool, true, false, not, _&&_, _||_}
 use mathlib.Core.List.{List, [], _∷_, map}
 use Prim.Native.Nat.{ℕ}
 use lib.Dec.{eqb, leb, ltb}
-use lib.ListN.{length, take}
-use Rattle.rules.specs.Components.{typeOf, kindIn, holds, inColumn}
+use lib.ListN.{length}
+use Rattle.rules.specs.Components.{typeOf, kindIn, holds, inColumn, listed}
 use Rattle.rules.specs.Descriptors.{modeInColumn}
 use Rattle.rules.specs.declared.component.Component.{Component}
 use Rattle.rules.specs.declared.descriptor.Descriptor.{Descriptor}
@@ -17,7 +17,7 @@ pub record Said : Type 0 where
   pub descriptor : Descriptor
 
 abbrev pub saying : Rule → Said
-saying r = record { precedence = r .precedence; components = take (r .count) (r .list); descriptor = r .descriptor }
+saying r = record { precedence = r .precedence; components = listed (r .components); descriptor = r .descriptor }
 
 abbrev pub elem : ℕ → List ℕ → Bool
 elem n [] = false

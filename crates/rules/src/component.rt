@@ -1,7 +1,7 @@
 // Components: what a rule asks of a packet.
 ghost use mathlib.Core.Path.{_≡_};
 ghost use Rattle.std.specs.Orderings.{Decides};
-ghost use Rattle.rules.specs.Components.{kindIn, inColumn};
+ghost use Rattle.rules.specs.Components.{kindIn, inColumn, listed};
 
 // The nine types of component.
 #[derive(Clone, Copy, PartialEq, Eq, Debug)]
@@ -81,3 +81,21 @@ pub impl PartialEq<Component> for Component as ComponentPartialEq {
 }
 
 pub impl Eq for Component as ComponentEq {}
+
+// The most components that a rule has.
+const MOST: usize = 8;
+
+// Components in their order: the first `count` of the array.
+#[derive(Clone, Copy, Debug)]
+pub struct Components {
+    pub array: [Component; 8],
+    pub count: usize,
+}
+
+impl Components {
+    pub fn as_slice(&self) -> &[Component]
+        ensures { λ r. ⌜ now r ≡ listed (now (self .entry)) ⌝ }
+    {
+        &self.array[0..self.count.min(MOST)]
+    }
+}

@@ -5,6 +5,7 @@ pub mod descriptor;
 pub mod rule;
 
 pub use component::Component;
+pub use component::Components;
 pub use component::Kind;
 pub use descriptor::Descriptor;
 pub use descriptor::Functionality;

@@ -1,3 +1,4 @@
 pub mod Accesses
 pub mod Pairs
 pub mod Refusals
+pub mod Replies

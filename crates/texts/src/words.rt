@@ -149,7 +149,7 @@ pub impl fmt::Display for RuleWords<'_> as RuleDisplay {
     fn fmt<W: fmt::Write>(&self, f: &mut fmt::Formatter<W>) -> fmt::Result {
         let rule = self.0;
         write!(f, "precedence {}", rule.precedence)?;
-        write_components(f, rule.components())?;
+        write_components(f, rule.components.as_slice())?;
         let Descriptor { functionality, mode } = rule.descriptor;
         write!(f, "; {}; {}", ModeWords(mode), FunctionalityWords(functionality))
     }

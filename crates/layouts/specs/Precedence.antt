@@ -1,0 +1,8 @@
+-- The precedences in a set.
+use mathlib.Core.Bool.{Bool, false}
+use Prim.Native.Nat.{ℕ}
+use lib.ListN.{getD}
+use Rattle.layouts.specs.declared.precedences.Precedences.{Precedences}
+
+abbrev pub has : Precedences → ℕ → Bool
+has s p = getD (s .marks) p false

@@ -1,0 +1,30 @@
+// A set of precedences.
+ghost use mathlib.Core.Path.{_≡_};
+ghost use mathlib.Core.Bool.{false, _||_};
+ghost use Prim.Native.Nat.{ℕ};
+ghost use lib.Dec.{eqb};
+ghost use Rattle.layouts.specs.Precedence.{has};
+
+pub struct Precedences {
+    marks: [bool; 256],
+}
+
+impl Precedences {
+    pub fn none() -> Precedences
+        ensures { λ r. ⌜ ((p : ℕ) → has r p ≡ false) ⌝ }
+    {
+        Precedences { marks: [false; 256] }
+    }
+
+    pub fn contains(&self, precedence: u8) -> bool
+        ensures { λ r. ⌜ r ≡ has (now (self .entry)) precedence ⌝ }
+    {
+        self.marks[usize::from(precedence)]
+    }
+
+    pub fn insert(&mut self, precedence: u8)
+        ensures { λ _. ⌜ ((p : ℕ) → has (now (self .exit)) p ≡ (eqb p precedence || has (now (self .entry)) p)) ⌝ }
+    {
+        self.marks[usize::from(precedence)] = true;
+    }
+}
