@@ -2,20 +2,22 @@
 use mathlib.Core.Path.{_≡_, refl, sym, ap, _∙_}
 use mathlib.Core.Bool.{Bool, true, false, not}
 use mathlib.Core.List.{List, [], _∷_, _++_}
-use Prim.Native.Nat.{ℕ, _≤_}
+use Prim.Native.Nat.{ℕ, _+_, _-_, _≤_}
 use lib.Dec.{ltb}
-use lib.ListN.{length, take}
+use lib.ListN.{length, take, drop}
 use Rattle.std.specs.declared.option.Option.the-variants.{Some}
-use Rattle.std.specs.declared.result.Result.the-variants.{Ok}
+use Rattle.std.specs.declared.result.Result.the-variants.{Ok, Err}
 use Rattle.std.proofs.shelf.Tests.{le-ltb, ltb-false, not-false, not-from-true}
 use Rattle.terms.specs.declared.refusal.Refusal.the-variants as refusal
-use Rattle.terms.specs.Replies.{found-or}
-use Rattle.terms.proofs.Replies.{after-ok, after-inv, refuse-not, refuse-inv, found-some, found-inv}
+use Rattle.terms.specs.Replies.{refuse-if, found-or}
+use Rattle.terms.specs.declared.refusal.Refusal.{Refusal}
+use Rattle.terms.proofs.Replies.{after-ok, after-err, after-inv, refuse-not, refuse-so, refuse-inv, found-some, found-inv}
 use Rattle.rules.specs.Components.{typeOf, kindIn, inColumn}
 use Rattle.rules.specs.declared.component.Component.{Component}
 use Rattle.rules.specs.declared.component.Kind.{Kind}
 use Rattle.rules.specs.declared.component.Kind.the-variants as kind
-use Rattle.layouts.specs.Reading.{kindOf, sizeOf, valueFrom, clashes, componentFrom}
+use Rattle.rules.specs.declared.descriptor.Descriptor.{Descriptor}
+use Rattle.layouts.specs.Reading.{Framed, kindOf, sizeOf, valueFrom, clashes, componentFrom, componentsIn, descriptorFrom, frameFrom, ruleFrom}
 
 pub component-ok : (ts : List ℕ) (t : ℕ) (xs : List ℕ) (k : Kind) (c : Component)
     → kindOf t ≡ Some k → sizeOf k ≤ length xs → clashes (typeOf k) ts ≡ false → c ≡ valueFrom k (take (sizeOf k) xs) → inColumn c ≡ true
@@ -60,3 +62,25 @@ component-inv ts t xs c e =
       is = rw (← same) (sym is);
       column = ap inColumn (sym is) ∙ not-false (inColumn value) column;
     }
+
+-- ---- a rule, part by part
+
+abbrev pub componentsPart : Framed → List ℕ → List ℕ
+componentsPart f xs = take (f .components) (drop 5 xs)
+
+abbrev pub descriptorPart : Framed → List ℕ → List ℕ
+descriptorPart f xs = take (f .size - (5 + f .components)) (drop (5 + f .components) xs)
+
+module _ (met : ℕ → Bool) (xs : List ℕ) (f : Framed) (framed : frameFrom xs ≡ Ok f) where
+  pub rule-stops : (e : Refusal) → componentsIn (componentsPart f xs) ≡ Err e → ruleFrom met xs ≡ Err e
+  rule-stops e r = after-ok _ framed ∙ after-err _ r
+
+  module _ (cs : List Component) (d : Descriptor) (components : componentsIn (componentsPart f xs) ≡ Ok cs) (descriptor : descriptorFrom (descriptorPart f xs) ≡ Some d) where
+    to-last : ruleFrom met xs ≡ refuse-if (met (f .precedence)) refusal.Precedence (Ok (record { precedence = f .precedence; components = cs; descriptor = d }, f .size))
+    to-last = after-ok _ framed ∙ after-ok _ components ∙ after-ok _ (found-some refusal.Descriptor descriptor)
+
+    pub rule-met : met (f .precedence) ≡ true → ruleFrom met xs ≡ Err refusal.Precedence
+    rule-met m = to-last ∙ refuse-so _ _ m
+
+    pub rule-ok : met (f .precedence) ≡ false → ruleFrom met xs ≡ Ok (record { precedence = f .precedence; components = cs; descriptor = d }, f .size)
+    rule-ok m = to-last ∙ refuse-not _ _ m

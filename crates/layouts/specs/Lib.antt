@@ -1,3 +1,4 @@
 pub mod Layout
 pub mod Precedence
 pub mod Reading
+pub mod Rule

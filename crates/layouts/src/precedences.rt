@@ -5,6 +5,7 @@ ghost use Prim.Native.Nat.{ℕ};
 ghost use lib.Dec.{eqb};
 ghost use Rattle.layouts.specs.Precedence.{has};
 
+#[derive(Clone, Copy)]
 pub struct Precedences {
     marks: [bool; 256],
 }
