@@ -14,9 +14,11 @@ use Rattle.terms.specs.declared.refusal.Refusal.{Refusal}
 use Rattle.terms.proofs.Replies.{after-ok, after-err, after-inv, refuse-not, refuse-so, refuse-inv, found-some, found-inv}
 use Rattle.rules.specs.Components.{typeOf, kindIn, inColumn}
 use Rattle.rules.specs.declared.component.Component.{Component}
+use Rattle.rules.specs.declared.component.Component.the-variants.{MatchAll, Ipv4, Ipv6, Protocol, Port, PortRange, SecurityIndex, ServiceType, FlowLabel}
 use Rattle.rules.specs.declared.component.Kind.{Kind}
 use Rattle.rules.specs.declared.component.Kind.the-variants as kind
 use Rattle.rules.specs.declared.descriptor.Descriptor.{Descriptor}
+use Rattle.layouts.specs.Layout.{valueOctets}
 use Rattle.layouts.specs.Reading.{Framed, kindOf, sizeOf, valueFrom, clashes, componentFrom, componentsIn, descriptorFrom, frameFrom, ruleFrom}
 
 pub component-ok : (ts : List ℕ) (t : ℕ) (xs : List ℕ) (k : Kind) (c : Component)
@@ -37,6 +39,17 @@ kind-kept kind.PortRange v = refl
 kind-kept kind.SecurityIndex v = refl
 kind-kept kind.ServiceType v = refl
 kind-kept kind.FlowLabel v = refl
+
+pub length-value : (c : Component) → length (valueOctets c) ≡ sizeOf (kindIn c)
+length-value MatchAll = refl
+length-value (Ipv4 a m) = refl
+length-value (Ipv6 a p) = refl
+length-value (Protocol n) = refl
+length-value (Port n) = refl
+length-value (PortRange l h) = refl
+length-value (SecurityIndex i) = refl
+length-value (ServiceType v m) = refl
+length-value (FlowLabel l) = refl
 
 -- what a component that was read shows
 pub record Component-read (ts : List ℕ) (t : ℕ) (xs : List ℕ) (c : Component) : Type 0 where

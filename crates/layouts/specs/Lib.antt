@@ -1,4 +1,5 @@
 pub mod Layout
+pub mod Memory
 pub mod Precedence
 pub mod Reading
 pub mod Rule

@@ -1,14 +1,19 @@
 // Components in octets.
 ghost use mathlib.Core.Path.{_≡_};
-ghost use Prim.Native.Nat.{_<_, _≤_};
+ghost use Prim.Native.Nat.{_+_, _<_, _≤_};
 ghost use lib.ListN.{length, drop, getD};
 ghost use Rattle.terms.specs.Replies.{seen-as};
 ghost use Rattle.rules.specs.Components.{typeOf, listed};
 ghost use Rattle.rules.specs.Rules.{typesIn};
+ghost use Rattle.layouts.specs.Layout.{valueOctets, componentOctets, componentsOctets};
+ghost use Rattle.layouts.specs.Memory.{written};
 ghost use Rattle.layouts.specs.Reading.{kindOf, sizeOf, valueFrom, clash, clashes, componentFrom, componentsIn};
+use crate::memory::place;
+use crate::memory::place_two;
 use crate::numbers::u128_of;
 use crate::numbers::u16_of;
 use crate::numbers::u32_of;
+use octets::octets_of;
 use rules::Component;
 use rules::Components;
 use rules::Kind;
@@ -154,4 +159,68 @@ pub(crate) fn read_components(octets: &[u8]) -> Result<Components, Refusal>
         return Err(Refusal::Components);
     }
     Ok(found)
+}
+
+fn place_value(memory: &mut [u8], at: usize, component: Component) -> usize
+    requires { ⌜ at + length (valueOctets component) ≤ length (now memory) ⌝ }
+    ensures value { λ r. ⌜ r ≡ at + length (valueOctets component) ⌝ }
+    ensures after { λ _. ⌜ now (memory .exit) ≡ written at (valueOctets component) (now (memory .entry)) ⌝ }
+{
+    match component {
+        Component::MatchAll => place(memory, at, &[]),
+        Component::Ipv4 { address, mask } => {
+            let address = octets_of::<4>(u128::from(address));
+            let mask = octets_of::<4>(u128::from(mask));
+            place_two(memory, at, &address, &mask)
+        }
+        Component::Ipv6 { address, prefix } => {
+            place_two(memory, at, &octets_of::<16>(address), &[prefix])
+        }
+        Component::Protocol { number } => place(memory, at, &[number]),
+        Component::Port { number } => place(memory, at, &octets_of::<2>(u128::from(number))),
+        Component::PortRange { low, high } => {
+            let low = octets_of::<2>(u128::from(low));
+            let high = octets_of::<2>(u128::from(high));
+            place_two(memory, at, &low, &high)
+        }
+        Component::SecurityIndex { index } => {
+            place(memory, at, &octets_of::<4>(u128::from(index)))
+        }
+        Component::ServiceType { value, mask } => place(memory, at, &[value, mask]),
+        Component::FlowLabel { label } => place(memory, at, &octets_of::<3>(u128::from(label))),
+    }
+}
+
+fn place_component(memory: &mut [u8], at: usize, component: Component) -> usize
+    requires { ⌜ at + length (componentOctets component) ≤ length (now memory) ⌝ }
+    ensures value { λ r. ⌜ r ≡ at + length (componentOctets component) ⌝ }
+    ensures after { λ _. ⌜ now (memory .exit) ≡ written at (componentOctets component) (now (memory .entry)) ⌝ }
+{
+    let at = place(memory, at, &[type_of(component.kind())]);
+    place_value(memory, at, component)
+}
+
+pub(crate) fn place_components(memory: &mut [u8], at: usize, components: &[Component]) -> usize
+    requires { ⌜ at + length (componentsOctets (now components)) ≤ length (now memory) ⌝ }
+    ensures value { λ r. ⌜ r ≡ at + length (componentsOctets (now (components .entry))) ⌝ }
+    ensures after { λ _. ⌜ now (memory .exit) ≡ written at (componentsOctets (now (components .entry))) (now (memory .entry)) ⌝ }
+{
+    let mut end = at;
+    for component in components {
+        end = place_component(memory, end, *component);
+    }
+    end
+}
+
+// How many octets the components have.
+pub(crate) fn components_size(components: &[Component]) -> usize
+    requires { ⌜ length (now components) ≤ 8 ⌝ }
+    ensures value { λ r. ⌜ r ≡ length (componentsOctets (now (components .entry))) ⌝ }
+    ensures bound { λ r. ⌜ r ≤ 144 ⌝ }
+{
+    let mut size = 0;
+    for component in components {
+        size += 1 + size_of(component.kind());
+    }
+    size
 }

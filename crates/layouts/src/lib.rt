@@ -1,6 +1,7 @@
 // How a rule lies in octets: reading one and writing one.
 mod components;
 mod descriptors;
+mod memory;
 mod numbers;
 pub mod precedences;
 pub mod rule;
