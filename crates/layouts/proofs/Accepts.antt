@@ -3,8 +3,9 @@ use mathlib.Core.Path.{_≡_, refl, sym, ap, _∙_}
 use mathlib.Core.Bool.{Bool, true, false, not}
 use mathlib.Core.List.{List, [], _∷_, _++_}
 use Prim.Native.Nat.{ℕ, _+_, _-_, _≤_}
+use native.Mathlib.Omega.{arith}
 use lib.Dec.{ltb}
-use lib.ListN.{length, take, drop}
+use lib.ListN.{length, take, drop, length-append}
 use Rattle.std.specs.declared.option.Option.the-variants.{Some}
 use Rattle.std.specs.declared.result.Result.the-variants.{Ok, Err}
 use Rattle.std.proofs.shelf.Tests.{le-ltb, ltb-false, not-false, not-from-true}
@@ -13,12 +14,13 @@ use Rattle.terms.specs.Replies.{refuse-if, found-or}
 use Rattle.terms.specs.declared.refusal.Refusal.{Refusal}
 use Rattle.terms.proofs.Replies.{after-ok, after-err, after-inv, refuse-not, refuse-so, refuse-inv, found-some, found-inv}
 use Rattle.rules.specs.Components.{typeOf, kindIn, inColumn}
+use Rattle.rules.specs.Rules.{Said}
 use Rattle.rules.specs.declared.component.Component.{Component}
 use Rattle.rules.specs.declared.component.Component.the-variants.{MatchAll, Ipv4, Ipv6, Protocol, Port, PortRange, SecurityIndex, ServiceType, FlowLabel}
 use Rattle.rules.specs.declared.component.Kind.{Kind}
 use Rattle.rules.specs.declared.component.Kind.the-variants as kind
 use Rattle.rules.specs.declared.descriptor.Descriptor.{Descriptor}
-use Rattle.layouts.specs.Layout.{valueOctets}
+use Rattle.layouts.specs.Layout.{valueOctets, componentsOctets, descriptorOctets, ruleOctets}
 use Rattle.layouts.specs.Reading.{Framed, kindOf, sizeOf, valueFrom, clashes, componentFrom, componentsIn, descriptorFrom, frameFrom, ruleFrom}
 
 pub component-ok : (ts : List ℕ) (t : ℕ) (xs : List ℕ) (k : Kind) (c : Component)
@@ -50,6 +52,9 @@ length-value (PortRange l h) = refl
 length-value (SecurityIndex i) = refl
 length-value (ServiceType v m) = refl
 length-value (FlowLabel l) = refl
+
+pub length-rule : (r : Said) → length (ruleOctets r) ≡ 5 + (length (componentsOctets (r .components)) + length (descriptorOctets (r .descriptor)))
+length-rule r = omega (arith, length-append (componentsOctets (r .components)) (descriptorOctets (r .descriptor)))
 
 -- what a component that was read shows
 pub record Component-read (ts : List ℕ) (t : ℕ) (xs : List ℕ) (c : Component) : Type 0 where

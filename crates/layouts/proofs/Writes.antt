@@ -39,3 +39,12 @@ pub length-written : (i : ℕ) (xs m : List ℕ) → i + length xs ≤ length m 
 length-written i xs m room =
     length-append (take i m) (xs ++ drop (i + length xs) m)
     ∙ omega (arith, length-append xs (drop (i + length xs) m), length-take-le i m (omega arith), length-drop (i + length xs) m)
+
+-- three writes in a row
+pub written-three : (i : ℕ) (xs ys zs m : List ℕ) (a₁ a₂ : ℕ) (m₁ m₂ m₃ : List ℕ) → i + (length xs + (length ys + length zs)) ≤ length m
+    → a₁ ≡ i + length xs → m₁ ≡ written i xs m → a₂ ≡ a₁ + length ys → m₂ ≡ written a₁ ys m₁ → m₃ ≡ written a₂ zs m₂
+    → m₃ ≡ written i (xs ++ (ys ++ zs)) m
+written-three i xs ys zs m a₁ a₂ m₁ m₂ m₃ room p₁ q₁ p₂ q₂ q₃ =
+    let long : length m₁ ≡ length m = ap length q₁ ∙ length-written i xs m (omega arith) in
+    q₃ ∙ (λ j. written (p₂ j) zs (q₂ j)) ∙ written-then a₁ ys zs m₁ (omega arith)
+    ∙ (λ j. written (p₁ j) (ys ++ zs) (q₁ j)) ∙ written-then i xs (ys ++ zs) m (omega arith)

@@ -4,13 +4,22 @@ ghost use Prim.Native.Nat.{_+_, _≤_, _<_};
 ghost use lib.ListN.{length};
 ghost use Rattle.std.specs.Vec.{made};
 ghost use Rattle.terms.specs.Replies.{seen-as};
+ghost use Rattle.rules.specs.Rules.{saying};
+ghost use Rattle.layouts.specs.Layout.{ruleOctets};
+ghost use Rattle.layouts.specs.Memory.{written, Writes};
 ghost use Rattle.layouts.specs.Precedence.{has};
 ghost use Rattle.layouts.specs.Reading.{field, frameFrom, ruleFrom};
 ghost use Rattle.layouts.specs.Rule.{framing, ruling};
+use crate::components::components_size;
+use crate::components::place_components;
 use crate::components::read_components;
+use crate::descriptors::descriptor_size;
+use crate::descriptors::place_descriptor;
 use crate::descriptors::read_descriptor;
+use crate::memory::place;
 use crate::numbers::u16_of;
 use crate::precedences::Precedences;
+use octets::octets_of;
 use rules::Rule;
 use terms::Refusal;
 
@@ -75,4 +84,37 @@ pub fn read_rule(octets: &[u8], met: &Precedences) -> Result<RuleRead, Refusal>
     }
     let rule = Rule { precedence, components, descriptor };
     Ok(RuleRead { rule, size })
+}
+
+// How many octets the rule has.
+pub fn rule_size(rule: &Rule) -> usize
+    ensures value { λ r. ⌜ r ≡ length (ruleOctets (saying (now (rule .entry)))) ⌝ }
+    ensures bound { λ r. ⌜ r ≤ 153 ⌝ }
+{
+    5 + components_size(rule.components.as_slice()) + usize::from(descriptor_size(rule.descriptor))
+}
+
+// Writes the rule into the memory from a place on, and gives the place behind it.
+pub fn write_rule(rule: &Rule, memory: &mut [u8], at: usize) -> Result<usize, Refusal>
+    ensures { λ r. ⌜ Writes at (ruleOctets (saying (now (rule .entry)))) (now (memory .entry)) r (now (memory .exit)) ⌝ }
+{
+    if at > memory.len() || memory.len() - at < rule_size(rule) {
+        return Err(Refusal::Memory);
+    }
+    Ok(place_rule(rule, memory, at))
+}
+
+fn place_rule(rule: &Rule, memory: &mut [u8], at: usize) -> usize
+    requires { ⌜ at + length (ruleOctets (saying (now rule))) ≤ length (now memory) ⌝ }
+    ensures value { λ r. ⌜ r ≡ at + length (ruleOctets (saying (now (rule .entry)))) ⌝ }
+    ensures after { λ _. ⌜ now (memory .exit) ≡ written at (ruleOctets (saying (now (rule .entry)))) (now (memory .entry)) ⌝ }
+{
+    let components = rule.components.as_slice();
+    let size = components_size(components);
+    let body = 3 + size + usize::from(descriptor_size(rule.descriptor));
+    let [b0, b1] = octets_of::<2>(body as u128);
+    let [s0, s1] = octets_of::<2>(size as u128);
+    let at = place(memory, at, &[b0, b1, rule.precedence, s0, s1]);
+    let at = place_components(memory, at, components);
+    place_descriptor(memory, at, rule.descriptor)
 }

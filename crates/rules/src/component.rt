@@ -1,5 +1,7 @@
 // Components: what a rule asks of a packet.
 ghost use mathlib.Core.Path.{_≡_};
+ghost use Prim.Native.Nat.{_≤_};
+ghost use lib.ListN.{length};
 ghost use Rattle.std.specs.Orderings.{Decides};
 ghost use Rattle.rules.specs.Components.{kindIn, inColumn, listed};
 
@@ -94,7 +96,8 @@ pub struct Components {
 
 impl Components {
     pub fn as_slice(&self) -> &[Component]
-        ensures { λ r. ⌜ now r ≡ listed (now (self .entry)) ⌝ }
+        ensures value { λ r. ⌜ now r ≡ listed (now (self .entry)) ⌝ }
+        ensures bound { λ r. ⌜ length (now r) ≤ 8 ⌝ }
     {
         &self.array[0..self.count.min(MOST)]
     }

@@ -21,7 +21,7 @@ read : (c : After-read-component) → at-place (listed (c .loop-at .found)) (c .
 read c =
     let xs = c .args .octets .now in
     let i = c .loop-at .at in
-    sym (c .read-component .ensures ∙ (λ j. componentFrom (typesIn (c .as-slice .ensures j)) (getD (take-rest xs i j) 0 0) (drop 1 (take-rest xs i j))))
+    sym (c .read-component .ensures ∙ (λ j. componentFrom (typesIn (c .as-slice .ensures .value j)) (getD (take-rest xs i j) 0 0) (drop 1 (take-rest xs i j))))
 
 pub index-found-found : need.index-found-found
 index-found-found c =

@@ -10,5 +10,5 @@ returns c =
     let x = c .args .self .now in
     let y = c .args .other .now in
     let d : x .descriptor ≡ y .descriptor = search needs in
-    same-said (saying x) (saying y) (c .eq .result) _ _ (c .as-slice .ensures) (c .as-slice-2 .ensures) (c .if-self-other .left) d
+    same-said (saying x) (saying y) (c .eq .result) _ _ (c .as-slice .ensures .value) (c .as-slice-2 .ensures .value) (c .if-self-other .left) d
     (matches-decides _ _ _ (c .eq .ensures))
