@@ -123,3 +123,12 @@ descriptor-read xs d e =
     whole (a ∷ (b ∷ (c ∷ ys))) x l own f m i =
         let size : 3 + length (information (x .mode)) ≡ a = omega (arith, own, ap length i) in
         λ j. size j ∷ (f j ∷ (m j ∷ i j))
+
+pub length-information : (m : Mode) → (length (information m) ≡ 0) ⊎ (length (information m) ≡ 1)
+length-information (ActiveStandby ThreeGpp false) = inr refl
+length-information (ActiveStandby ThreeGpp true) = inr refl
+length-information (ActiveStandby NonThreeGpp false) = inr refl
+length-information (ActiveStandby NonThreeGpp true) = inr refl
+length-information SmallestDelay = inl refl
+length-information (LoadBalancing k) = inr refl
+length-information (Priority first) = inr refl

@@ -3,6 +3,7 @@ pub mod Clashes
 pub mod Descriptions
 pub mod Joins
 pub mod Rows
+pub mod RuleTrips
 pub mod Trips
 pub mod Values
 pub mod Writes

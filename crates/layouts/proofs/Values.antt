@@ -97,3 +97,14 @@ value-read kind.PortRange v l o = both 2 2 v l o
 value-read kind.SecurityIndex v l o = one 4 v l o
 value-read kind.ServiceType v l o = ap (λ r. getD v 0 0 ∷ r) (last-octet 1 v l) ∙ sym (drop-more v 0 0 (omega arith))
 value-read kind.FlowLabel v l o = one 3 v l o
+
+pub size-small : (k : Kind) → sizeOf k ≤ 17
+size-small kind.MatchAll = omega arith
+size-small kind.Ipv4 = omega arith
+size-small kind.Ipv6 = omega arith
+size-small kind.Protocol = omega arith
+size-small kind.Port = omega arith
+size-small kind.PortRange = omega arith
+size-small kind.SecurityIndex = omega arith
+size-small kind.ServiceType = omega arith
+size-small kind.FlowLabel = omega arith
