@@ -71,7 +71,8 @@ pub struct RuleRead {
 
 // The rule at the front of the octets; its precedence may not be one of those met before.
 pub fn read_rule(octets: &[u8], met: &Precedences) -> Result<RuleRead, Refusal>
-    ensures { λ r. ⌜ seen-as ruling r ≡ ruleFrom (has (now (met .entry))) (now (octets .entry)) ⌝ }
+    ensures value { λ r. ⌜ seen-as ruling r ≡ ruleFrom (has (now (met .entry))) (now (octets .entry)) ⌝ }
+    ensures inside { λ r. ⌜ made r (λ x. x .size ≤ length (now (octets .entry))) ⌝ }
 {
     let Frame { precedence, components: length, size } = read_frame(octets)?;
     let end = 5 + length;

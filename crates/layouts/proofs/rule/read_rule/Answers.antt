@@ -34,18 +34,27 @@ returns-in-Break-components c =
     let b = need.at·returns-in-Break-components c .After-read-components in
     let p = err-from-errBy (c .from-residual-in-Break-components .result) (c .from-residual-in-Break-components .ensures .1) in
     rw (p .1, p .2)
-    (sym (rule-stops (has (c .args .met .now)) (c .args .octets .now) (frame b) (framed b) _ (components b ∙ ap (seen-as listed) (c .in-Break-components .was tt))))
+    (record {
+      value = sym (rule-stops (has (c .args .met .now)) (c .args .octets .now) (frame b) (framed b) _ (components b ∙ ap (seen-as listed) (c .in-Break-components .was tt)));
+      inside = tt;
+    })
 
 pub returns-then-contains : need.returns-then-contains
 unfolding frame
 returns-then-contains c =
     let b = need.at·returns-then-contains c .After-read-components in
-    sym (rule-met (has (c .args .met .now)) (c .args .octets .now) (frame b) (framed b) _ _
-         (components b ∙ ap (seen-as listed) (c .in-Continue-components .was tt)) (sym (c .in-Some .ensures tt)) (sym (c .if-contains .ensures tt)))
+    record {
+      value = sym (rule-met (has (c .args .met .now)) (c .args .octets .now) (frame b) (framed b) _ _
+                   (components b ∙ ap (seen-as listed) (c .in-Continue-components .was tt)) (sym (c .in-Some .ensures tt)) (sym (c .if-contains .ensures tt)));
+      inside = tt;
+    }
 
 pub returns : need.returns
 unfolding frame
 returns c =
     let b = need.at·returns c .After-read-components in
-    sym (rule-ok (has (c .args .met .now)) (c .args .octets .now) (frame b) (framed b) _ _
-         (components b ∙ ap (seen-as listed) (c .in-Continue-components .was tt)) (sym (c .in-Some .ensures tt)) (sym (c .if-contains .ensures tt)))
+    record {
+      value = sym (rule-ok (has (c .args .met .now)) (c .args .octets .now) (frame b) (framed b) _ _
+                   (components b ∙ ap (seen-as listed) (c .in-Continue-components .was tt)) (sym (c .in-Some .ensures tt)) (sym (c .if-contains .ensures tt)));
+      inside = c .in-Continue-precedence .ensures tt .inside .1;
+    }

@@ -1,0 +1,13 @@
+// A sound set of rules.
+ghost use mathlib.Core.Path.{_≡_};
+ghost use mathlib.Core.Bool.{true};
+ghost use Rattle.rules.specs.Rules.{sound};
+ghost use Rattle.sheets.specs.Tables.{said};
+use crate::table::RuleTable;
+
+mod reading;
+
+pub struct RuleSet {
+    table: RuleTable,
+    ghost sound: { sound (said table) ≡ true },
+}

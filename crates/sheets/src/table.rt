@@ -1,0 +1,49 @@
+// A table of rules: the first `count` of the array.
+ghost use mathlib.Core.Path.{_≡_};
+ghost use mathlib.Core.List.{[], _∷_, _++_};
+ghost use Prim.Native.Nat.{_+_, _<_};
+ghost use Rattle.rules.specs.Rules.{saying};
+ghost use Rattle.sheets.specs.Tables.{said};
+use rules::Component;
+use rules::Components;
+use rules::Descriptor;
+use rules::Functionality;
+use rules::Mode;
+use rules::Rule;
+
+#[derive(Clone, Copy)]
+pub struct RuleTable {
+    pub(crate) rules: [Rule; 128],
+    pub(crate) count: usize,
+}
+
+impl RuleTable {
+    pub(crate) fn empty() -> RuleTable
+        ensures { λ r. ⌜ r .count ≡ 0 ⌝ }
+    {
+        let none = Rule {
+            precedence: 0,
+            components: Components {
+                array: [Component::MatchAll; 8],
+                count: 0,
+            },
+            descriptor: Descriptor {
+                functionality: Functionality::OnlyOne,
+                mode: Mode::SmallestDelay,
+            },
+        };
+        RuleTable {
+            rules: [none; 128],
+            count: 0,
+        }
+    }
+
+    pub(crate) fn push(&mut self, rule: Rule)
+        requires { ⌜ now self .count < 128 ⌝ }
+        ensures after { λ _. ⌜ said (now (self .exit)) ≡ said (now (self .entry)) ++ (saying rule ∷ []) ⌝ }
+        ensures count { λ _. ⌜ now (self .exit) .count ≡ now (self .entry) .count + 1 ⌝ }
+    {
+        self.rules[self.count] = rule;
+        self.count += 1;
+    }
+}
