@@ -1,3 +1,5 @@
+pub mod Law
 pub mod Layout
 pub mod Reading
+pub mod Sets
 pub mod Tables

@@ -5,8 +5,9 @@ ghost use Rattle.rules.specs.Rules.{sound};
 ghost use Rattle.sheets.specs.Tables.{said};
 use crate::table::RuleTable;
 
-mod reading;
+pub mod reading;
 
+#[derive(Clone, Copy)]
 pub struct RuleSet {
     table: RuleTable,
     ghost sound: { sound (said table) ≡ true },
