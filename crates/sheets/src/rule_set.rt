@@ -5,6 +5,7 @@ ghost use Rattle.rules.specs.Rules.{sound};
 ghost use Rattle.sheets.specs.Tables.{said};
 use crate::table::RuleTable;
 
+pub mod parts;
 pub mod reading;
 
 #[derive(Clone, Copy)]

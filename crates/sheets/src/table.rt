@@ -1,6 +1,6 @@
 // A table of rules: the first `count` of the array.
 ghost use mathlib.Core.Path.{_≡_};
-ghost use mathlib.Core.List.{[], _∷_, _++_};
+ghost use mathlib.Core.List.{[], _∷_, _++_, map};
 ghost use Prim.Native.Nat.{_+_, _<_};
 ghost use Rattle.rules.specs.Rules.{saying};
 ghost use Rattle.sheets.specs.Tables.{said};
@@ -10,6 +10,9 @@ use rules::Descriptor;
 use rules::Functionality;
 use rules::Mode;
 use rules::Rule;
+
+// The most rules that a table holds.
+pub(crate) const MOST: usize = 128;
 
 #[derive(Clone, Copy)]
 pub struct RuleTable {
@@ -45,5 +48,11 @@ impl RuleTable {
     {
         self.rules[self.count] = rule;
         self.count += 1;
+    }
+
+    pub(crate) fn as_slice(&self) -> &[Rule]
+        ensures { λ r. ⌜ map saying (now r) ≡ said (now (self .entry)) ⌝ }
+    {
+        &self.rules[0..self.count.min(MOST)]
     }
 }

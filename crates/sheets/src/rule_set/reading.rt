@@ -9,6 +9,7 @@ ghost use Rattle.sheets.specs.Reading.{rulesFrom, distanceIn, sheetFrom};
 ghost use Rattle.sheets.specs.Sets.{sheeting};
 ghost use Rattle.sheets.specs.Tables.{said};
 use crate::rule_set::RuleSet;
+use crate::table::MOST;
 use crate::table::RuleTable;
 use layouts::Precedences;
 use layouts::RuleRead;
@@ -36,9 +37,8 @@ fn read_rules(octets: &[u8], count: usize) -> Result<RuleTable, Refusal>
     Ok(table)
 }
 
-// The most octets that a sheet has, and the most rules.
+// The most octets that a sheet has.
 pub(crate) const LIMIT: usize = 16384;
-const MOST: usize = 128;
 
 // A sheet that was read: how many octets its heading has, and its rules.
 pub struct Sheet {
