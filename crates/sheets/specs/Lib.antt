@@ -3,3 +3,4 @@ pub mod Layout
 pub mod Reading
 pub mod Sets
 pub mod Tables
+pub mod Writing

@@ -1,7 +1,8 @@
 // A table of rules: the first `count` of the array.
 ghost use mathlib.Core.Path.{_≡_};
 ghost use mathlib.Core.List.{[], _∷_, _++_, map};
-ghost use Prim.Native.Nat.{_+_, _<_};
+ghost use Prim.Native.Nat.{_+_, _<_, _≤_};
+ghost use lib.ListN.{length};
 ghost use Rattle.rules.specs.Rules.{saying};
 ghost use Rattle.sheets.specs.Tables.{said};
 use rules::Component;
@@ -51,7 +52,8 @@ impl RuleTable {
     }
 
     pub(crate) fn as_slice(&self) -> &[Rule]
-        ensures { λ r. ⌜ map saying (now r) ≡ said (now (self .entry)) ⌝ }
+        ensures value { λ r. ⌜ map saying (now r) ≡ said (now (self .entry)) ⌝ }
+        ensures bound { λ r. ⌜ length (now r) ≤ 128 ⌝ }
     {
         &self.rules[0..self.count.min(MOST)]
     }

@@ -1,6 +1,7 @@
 // The rules of a set.
 ghost use mathlib.Core.Path.{_≡_};
 ghost use mathlib.Core.List.{map};
+ghost use Prim.Native.Nat.{_≤_};
 ghost use lib.ListN.{length};
 ghost use Rattle.std.specs.Orderings.{Decides};
 ghost use Rattle.rules.specs.Rules.{saying};
@@ -14,7 +15,8 @@ use terms::Refusal;
 impl RuleSet {
     // In the order of the sheet.
     pub fn rules(&self) -> &[Rule]
-        ensures { λ r. ⌜ map saying (now r) ≡ rulesOf (now (self .entry)) ⌝ }
+        ensures value { λ r. ⌜ map saying (now r) ≡ rulesOf (now (self .entry)) ⌝ }
+        ensures bound { λ r. ⌜ length (now r) ≤ 128 ⌝ }
     {
         self.table.as_slice()
     }

@@ -7,4 +7,4 @@ use Rattle.sheets.proofs.rule_set.parts.RuleSetPartialEq.eq.Needs as need
 pub returns : need.returns
 returns c =
     let tells = matches-map saying (c .rules .result .now) (c .rules-2 .result .now) (c .eq .result) (c .eq .ensures) in
-    rw (c .rules .ensures, c .rules-2 .ensures) at tells
+    rw (c .rules .ensures .value, c .rules-2 .ensures .value) at tells
