@@ -10,12 +10,13 @@ use lib.Dec.{leb}
 use lib.ListN.{length, take, drop, getD, length-append}
 use Rattle.std.specs.Joined.{joined}
 use Rattle.std.specs.Orderings.{When}
+use Rattle.std.specs.Results.{Cases}
 use Rattle.std.specs.Vec.{made}
 use Rattle.std.specs.declared.result.Result.{Result}
 use Rattle.std.specs.declared.result.Result.the-variants.{Ok, Err}
 use Rattle.std.proofs.shelf.Lists.{take-at}
 use Rattle.std.proofs.shelf.Tests.{and-from, and-left, and-right, false≢true, le-leb, lt-leb}
-use Rattle.std.proofs.shelf.Ways.{when-true}
+use Rattle.std.proofs.shelf.Ways.{when-true, when-false}
 use Rattle.terms.specs.declared.access.Access.the-variants.{ThreeGpp}
 use Rattle.terms.specs.declared.refusal.Refusal.{Refusal}
 use Rattle.terms.specs.declared.refusal.Refusal.the-variants.{Memory}
@@ -28,7 +29,7 @@ use Rattle.layouts.specs.Memory as memory
 use Rattle.layouts.proofs.Writes.{written-three, length-written}
 use Rattle.sheets.specs.Layout.{rulesOctets, trailer, sheetOctets}
 use Rattle.sheets.specs.Reading.{sheetFrom}
-use Rattle.sheets.specs.Writing.{Writes}
+use Rattle.sheets.specs.Writing.{Writes, Rewrites}
 use Rattle.sheets.proofs.Trips.{sheet-written}
 
 -- what stands behind the last rule of a list
@@ -105,3 +106,29 @@ sheet-done h rs m ts n a₁ a₂ m₁ m₂ m₃ r trails is limit room w₁ at�
     let back : sheetFrom (take (length xs) m₃) ≡ Ok (length h, rs)
         = ap (λ l. sheetFrom (take (length xs) l)) all ∙ ap sheetFrom (take-at xs (drop (length xs) m) _ refl) ∙ sheet-written h rs sounds (omega (arith, is, limit)) in
     (when-from _ _ yes (gives, all), made-from (λ k. sheetFrom (take k m₃) ≡ Ok (length h, rs)) gives back)
+
+-- a sheet that was read and finds no room
+pub rewrite-refused : (xs h : List ℕ) (rs : List Said) (m : List ℕ) (e : Refusal) (m′ : List ℕ) (s : ℕ × List Said)
+    → Ok s ≡ sheetFrom xs → xs ≡ sheetOctets h rs → length xs ≤ 16384 → Writes h rs m (Err e) m′ → Rewrites xs m (Err e) m′
+rewrite-refused xs h rs m e m′ s read layout limit w =
+    go (leb (length xs) (length m)) refl
+  where
+    n : length (sheetOctets h rs) ≡ length xs
+    n = ap length (sym layout)
+
+    within : leb (length (sheetOctets h rs)) 16384 ≡ true
+    within = le-leb _ 16384 (omega (arith, n, limit))
+
+    go : (b : Bool) → leb (length xs) (length m) ≡ b → Rewrites xs m (Err e) m′
+    go true p =
+        let yes : (leb (length (sheetOctets h rs)) 16384 && leb (length (sheetOctets h rs)) (length m)) ≡ true
+            = and-from _ _ within (ap (λ k. leb k (length m)) n ∙ p) in
+        absurd (no-refusal (when-true _ _ yes w .0) refl)
+    go false p =
+        let no : (leb (length (sheetOctets h rs)) 16384 && leb (length (sheetOctets h rs)) (length m)) ≡ false
+            = and-right (leb (length (sheetOctets h rs)) 16384) _ (ap (λ k. leb k (length m)) n ∙ p) in
+        let stays = when-false _ _ no w in
+        let refused : Result (ℕ × List Said) Refusal = Err e in
+        let is : e ≡ Memory = (let q = stays .0 in cc) in
+        subst (λ t. Cases t (λ x. When (leb (length xs) (length m)) ((refused ≡ Ok x) × (m′ ≡ xs ++ drop (length xs) m)) ((refused ≡ Err Memory) × (m′ ≡ m))) (λ d. (refused ≡ Err d) × (m′ ≡ m))) read
+        (when-not _ _ p (ap (λ d. Err d) is, stays .1))

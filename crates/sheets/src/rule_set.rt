@@ -7,6 +7,7 @@ use crate::table::RuleTable;
 
 pub mod parts;
 pub mod reading;
+pub mod rewriting;
 pub mod writing;
 
 #[derive(Clone, Copy)]

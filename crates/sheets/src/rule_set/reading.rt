@@ -41,6 +41,7 @@ fn read_rules(octets: &[u8], count: usize) -> Result<RuleTable, Refusal>
 pub(crate) const LIMIT: usize = 16384;
 
 // A sheet that was read: how many octets its heading has, and its rules.
+#[derive(Clone, Copy)]
 pub struct Sheet {
     pub heading: usize,
     pub rules: RuleSet,
