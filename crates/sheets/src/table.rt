@@ -16,7 +16,7 @@ use rules::Rule;
 pub(crate) const MOST: usize = 128;
 
 #[derive(Clone, Copy)]
-pub struct RuleTable {
+pub(crate) struct RuleTable {
     pub(crate) rules: [Rule; 128],
     pub(crate) count: usize,
 }

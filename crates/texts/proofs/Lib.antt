@@ -1,2 +1,3 @@
 pub mod Hexes
+pub mod Lines
 pub mod Wording

@@ -1,2 +1,3 @@
+pub mod Commands
 pub mod Hexes
 pub mod Words

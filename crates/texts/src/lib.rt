@@ -1,7 +1,11 @@
-// Text: octets in hexadecimal, and rules in words.
+// Text: octets in hexadecimal, rules in words, and command lines.
+pub mod command;
 pub mod hex;
 pub mod words;
 
+pub use command::Command;
+pub use command::CommandFault;
+pub use command::read_command;
 pub use hex::Hex;
 pub use hex::HexFault;
 pub use hex::read_hex;
