@@ -1,3 +1,4 @@
 pub mod Commands
 pub mod Hexes
+pub mod Sheets
 pub mod Words

@@ -1,20 +1,17 @@
 // Command lines.
 ghost use Rattle.texts.specs.Commands.{ReadsCommand};
 use crate::hex::HexFault;
-use crate::hex::HexFaultDebug;
-use crate::hex::HexFaultEq;
-use crate::hex::HexFaultPartialEq;
 use crate::hex::read_hex;
 
 // A line that is a command.
-#[derive(Clone, Copy, PartialEq, Eq, Debug)]
+#[derive(Clone, Copy)]
 pub enum Command {
     // a sheet, of so many octets
     Sheet { length: usize },
 }
 
 // Why a line is no command that can be carried out.
-#[derive(Clone, Copy, PartialEq, Eq, Debug)]
+#[derive(Clone, Copy)]
 pub enum CommandFault {
     // it does not begin as a command does
     Unknown,
