@@ -127,3 +127,7 @@ pub stands : (text : List ℕ) → length text % 2 ≡ 0 → allDigits text ≡ 
 stands text even all =
     let p = hex-paired text even all in
     (record { octets = p .1; written = sym (p .0); only = λ ys o e. sym (paired-hex ys o) ∙ ap paired (sym e) }, p .2)
+
+-- octets are told by their text
+pub hex-same : (xs ys : List ℕ) → Octets xs → Octets ys → hexOf xs ≡ hexOf ys → xs ≡ ys
+hex-same xs ys o p e = sym (paired-hex xs o) ∙ ap paired e ∙ paired-hex ys p

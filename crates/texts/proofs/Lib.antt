@@ -1,3 +1,4 @@
+pub mod Answering
 pub mod Hexes
 pub mod Lines
 pub mod Sheeting

@@ -7,9 +7,9 @@ use lib.ListN.{length, take, drop, getD}
 use Rattle.std.proofs.shelf.Lists.{take-all}
 use Rattle.octets.specs.Numbers.{Octets}
 use Rattle.std.specs.declared.result.Result.the-variants.{Err}
-use Rattle.texts.specs.Commands.{SheetLine, ReadsCommand}
+use Rattle.texts.specs.Commands.{SheetLine, ReadsLine}
 use Rattle.texts.specs.Hexes.{hexOf, Stands, ReadsHex}
-use Rattle.texts.specs.declared.command.CommandFault.the-variants.{Hex}
+use Rattle.texts.specs.declared.command.LineFault.the-variants.{Hex}
 use Rattle.texts.specs.declared.hex.HexFault.{HexFault}
 use Rattle.texts.specs.declared.hex.HexFault.the-variants.{NotHex, NoRoom}
 use Rattle.texts.proofs.Hexes.{length-hex}
@@ -34,6 +34,6 @@ module _ (line text : List ℕ) (is : line ≡ 83 ∷ (32 ∷ text)) where
   pub no-text : (xs : List ℕ) → length text ≡ 0 → SheetLine line xs → ⊥
   no-text xs none s = omega (arith, ap length (text-of xs s), length-hex xs, s .some)
 
-  pub hex-refused : (m : List ℕ) (fault : HexFault) (m′ : List ℕ) → 0 < length text → ReadsHex text m (Err fault) m′ → ReadsCommand line m (Err (Hex fault)) m′
+  pub hex-refused : (m : List ℕ) (fault : HexFault) (m′ : List ℕ) → 0 < length text → ReadsHex text m (Err fault) m′ → ReadsLine line m (Err (Hex fault)) m′
   hex-refused m NotHex m′ some r = (text, is, (λ xs s. r .0 xs (s .octets) (text-of xs s)), r .1)
   hex-refused m NoRoom m′ some r = (r .0, sheet-line (r .0) some (r .1), r .2, r .3)

@@ -1,4 +1,5 @@
 pub mod Commands
 pub mod Hexes
+pub mod Replies
 pub mod Sheets
 pub mod Words

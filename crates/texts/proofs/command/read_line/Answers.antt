@@ -6,8 +6,8 @@ use borrow.Author.Needs.{needs}
 use lib.ListN.{length, getD}
 use Rattle.std.proofs.shelf.Tests.{eqb-true, eqb-false}
 use Rattle.texts.proofs.Lines.{behind, begins, sheet-line, no-text, hex-refused}
-use Rattle.texts.proofs.command.read_command.Needs as need
-use Rattle.texts.proofs.command.read_command.Needs.{After-is-empty}
+use Rattle.texts.proofs.command.read_line.Needs as need
+use Rattle.texts.proofs.command.read_line.Needs.{After-is-empty}
 
 line-is : (c : After-is-empty) → c .args .line .now ≡ 83 ∷ (32 ∷ behind (c .args .line .now))
 line-is c =
