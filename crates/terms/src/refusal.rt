@@ -1,10 +1,11 @@
 // The numbered refusals.
 ghost use mathlib.Core.Path.{_≡_};
+ghost use Rattle.std.specs.Orderings.{Decides};
 ghost use Rattle.std.specs.declared.option.Option.the-variants.{Some};
 ghost use Rattle.terms.specs.Refusals.{numberOf, wordsOf};
 use std::fmt;
 
-#[derive(Clone, Copy, PartialEq, Eq, Debug)]
+#[derive(Clone, Copy, Debug)]
 pub enum Refusal {
     SheetSize,
     RuleCount,
@@ -68,6 +69,16 @@ impl Refusal {
         }
     }
 }
+
+pub impl PartialEq<Refusal> for Refusal as RefusalPartialEq {
+    ghost equals = { λ x y r. Decides r (x ≡ y) };
+
+    fn eq(&self, other: &Refusal) -> bool {
+        self.number() == other.number()
+    }
+}
+
+pub impl Eq for Refusal as RefusalEq {}
 
 pub impl fmt::Display for Refusal as RefusalDisplay {
     ghost shown = { λ x. Some (wordsOf x) };
