@@ -36,8 +36,13 @@ fn bad_text(heap: Global, fault: LineFault) -> Result<String, AllocError>
     ensures { λ r. ⌜ made r (λ s. string-bytes s ≡ faultWords fault) ⌝ }
 {
     match fault {
-        LineFault::Unknown => String::from_str(heap, "no command begins so"),
-        LineFault::Hex { .. } => String::from_str(heap, "no octets in upper-case hex"),
+        LineFault::Unknown => {
+            String::from_str(heap, "no command: S, one space and a sheet in hex")
+        }
+        LineFault::Hex { .. } => String::from_str(
+            heap,
+            "no hex: two of the digits 0-9 and A-F for each octet, one octet or more",
+        ),
     }
 }
 
