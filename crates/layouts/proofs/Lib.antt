@@ -2,6 +2,7 @@ pub mod Accepts
 pub mod Clashes
 pub mod Descriptions
 pub mod Joins
+pub mod Marks
 pub mod Rows
 pub mod RuleTrips
 pub mod Trips

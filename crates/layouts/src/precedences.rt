@@ -1,9 +1,9 @@
 // A set of precedences.
 ghost use mathlib.Core.Path.{_≡_};
-ghost use mathlib.Core.Bool.{false, _||_};
+ghost use mathlib.Core.Bool.{_||_};
 ghost use Prim.Native.Nat.{ℕ};
 ghost use lib.Dec.{eqb};
-ghost use Rattle.layouts.specs.Precedence.{has};
+ghost use Rattle.layouts.specs.Precedence.{has, empty};
 
 #[derive(Clone, Copy)]
 pub struct Precedences {
@@ -12,7 +12,7 @@ pub struct Precedences {
 
 impl Precedences {
     pub fn none() -> Precedences
-        ensures { λ r. ⌜ ((p : ℕ) → has r p ≡ false) ⌝ }
+        ensures { λ r. ⌜ r ≡ empty ⌝ }
     {
         Precedences { marks: [false; 256] }
     }
@@ -20,7 +20,8 @@ impl Precedences {
     pub fn contains(&self, precedence: u8) -> bool
         ensures { λ r. ⌜ r ≡ has (now (self .entry)) precedence ⌝ }
     {
-        self.marks[usize::from(precedence)]
+        let place = usize::from(precedence);
+        self.marks[place]
     }
 
     pub fn insert(&mut self, precedence: u8)

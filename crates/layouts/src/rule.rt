@@ -3,9 +3,10 @@ ghost use mathlib.Core.Path.{_≡_};
 ghost use Prim.Native.Nat.{_+_, _≤_, _<_};
 ghost use lib.ListN.{length};
 ghost use Rattle.std.specs.Vec.{made};
+ghost use Rattle.std.specs.declared.result.Result.the-variants.{Ok};
 ghost use Rattle.terms.specs.Replies.{seen-as};
 ghost use Rattle.rules.specs.Rules.{saying};
-ghost use Rattle.layouts.specs.Layout.{ruleOctets};
+ghost use Rattle.layouts.specs.Layout.{ruleBody, ruleOctets};
 ghost use Rattle.layouts.specs.Memory.{written, Writes};
 ghost use Rattle.layouts.specs.Precedence.{has};
 ghost use Rattle.layouts.specs.Reading.{field, frameFrom, ruleFrom};
@@ -74,7 +75,18 @@ pub fn read_rule(octets: &[u8], met: &Precedences) -> Result<RuleRead, Refusal>
     ensures value { λ r. ⌜ seen-as ruling r ≡ ruleFrom (has (now (met .entry))) (now (octets .entry)) ⌝ }
     ensures inside { λ r. ⌜ made r (λ x. x .size ≤ length (now (octets .entry))) ⌝ }
 {
-    let Frame { precedence, components: length, size } = read_frame(octets)?;
+    let frame = read_frame(octets)?;
+    read_framed(frame, octets, met)
+}
+
+// The rule that this frame holds.
+fn read_framed(frame: Frame, octets: &[u8], met: &Precedences) -> Result<RuleRead, Refusal>
+    requires framed { ⌜ frameFrom (now octets) ≡ Ok (framing frame) ⌝ }
+    requires inside { ⌜ (5 + frame .components ≤ frame .size) × (frame .size ≤ length (now octets)) ⌝ }
+    ensures value { λ r. ⌜ seen-as ruling r ≡ ruleFrom (has (now (met .entry))) (now (octets .entry)) ⌝ }
+    ensures inside { λ r. ⌜ made r (λ x. x .size ≤ length (now (octets .entry))) ⌝ }
+{
+    let Frame { precedence, components: length, size } = frame;
     let end = 5 + length;
     let components = read_components(&octets[5..end])?;
     let Some(descriptor) = read_descriptor(&octets[end..size]) else {
@@ -92,7 +104,15 @@ pub fn rule_size(rule: &Rule) -> usize
     ensures value { λ r. ⌜ r ≡ length (ruleOctets (saying (now (rule .entry)))) ⌝ }
     ensures bound { λ r. ⌜ r ≤ 153 ⌝ }
 {
-    5 + components_size(rule.components.as_slice()) + usize::from(descriptor_size(rule.descriptor))
+    2 + body_size(rule)
+}
+
+// How many octets follow the rule's length.
+fn body_size(rule: &Rule) -> usize
+    ensures value { λ r. ⌜ r ≡ length (ruleBody (saying (now (rule .entry)))) ⌝ }
+    ensures bound { λ r. ⌜ r ≤ 151 ⌝ }
+{
+    3 + components_size(rule.components.as_slice()) + usize::from(descriptor_size(rule.descriptor))
 }
 
 // Writes the rule into the memory from a place on, and gives the place behind it.
@@ -111,10 +131,8 @@ fn place_rule(rule: &Rule, memory: &mut [u8], at: usize) -> usize
     ensures after { λ _. ⌜ now (memory .exit) ≡ written at (ruleOctets (saying (now (rule .entry)))) (now (memory .entry)) ⌝ }
 {
     let components = rule.components.as_slice();
-    let size = components_size(components);
-    let body = 3 + size + usize::from(descriptor_size(rule.descriptor));
-    let [b0, b1] = octets_of::<2>(body as u128);
-    let [s0, s1] = octets_of::<2>(size as u128);
+    let [b0, b1] = octets_of::<2>(body_size(rule) as u128);
+    let [s0, s1] = octets_of::<2>(components_size(components) as u128);
     let at = place(memory, at, &[b0, b1, rule.precedence, s0, s1]);
     let at = place_components(memory, at, components);
     place_descriptor(memory, at, rule.descriptor)

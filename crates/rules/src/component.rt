@@ -99,6 +99,10 @@ impl Components {
         ensures value { λ r. ⌜ now r ≡ listed (now (self .entry)) ⌝ }
         ensures bound { λ r. ⌜ length (now r) ≤ 8 ⌝ }
     {
-        &self.array[0..self.count.min(MOST)]
+        if self.count < MOST {
+            &self.array[0..self.count]
+        } else {
+            &self.array
+        }
     }
 }

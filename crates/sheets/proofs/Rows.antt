@@ -5,7 +5,7 @@ use mathlib.Core.List.{List, [], _∷_, _++_, map}
 use Prim.Native.Nat.{ℕ, zero, suc, _+_, _-_, _≤_, _<_}
 use native.Mathlib.Omega.{arith}
 use lib.Dec.{eqb, ltb}
-use lib.ListN.{length, drop}
+use lib.ListN.{length, take, drop}
 use Rattle.std.specs.declared.result.Result.the-variants.{Ok, Err}
 use Rattle.std.proofs.shelf.Lists.{drop-drop, length-drop, map-push}
 use Rattle.std.proofs.shelf.Tests.{le-ltb, lt-ltb}
@@ -13,8 +13,9 @@ use Rattle.terms.specs.declared.refusal.Refusal.{Refusal}
 use Rattle.terms.specs.declared.refusal.Refusal.the-variants.{Surplus}
 use Rattle.terms.proofs.Replies.{after-ok, after-err, refuse-not, refuse-so}
 use Rattle.rules.specs.Rules.{Said, saying, elem}
-use Rattle.layouts.specs.Precedence.{has}
+use Rattle.layouts.specs.Precedence.{has, empty}
 use Rattle.layouts.specs.Reading.{ruleFrom}
+use Rattle.layouts.proofs.Marks.{none-has}
 use Rattle.layouts.specs.declared.precedences.Precedences.{Precedences}
 use Rattle.sheets.specs.Reading.{precedences, rulesFrom}
 use Rattle.sheets.specs.Tables.{said}
@@ -36,6 +37,17 @@ pub record Found (t : RuleTable) (met : Precedences) (count i at : ℕ) (xs : Li
   pub inside : at ≤ length xs
   pub filled : t .count ≡ i
   pub marks : (p : ℕ) → has met p ≡ elem p (precedences (said t))
+
+pub found-none : (t : RuleTable) (met : Precedences) (count : ℕ) (xs : List ℕ) → t .count ≡ 0 → met ≡ empty → Found t met count 0 0 xs
+found-none t met count xs e m =
+    let none : said t ≡ [] = ap (λ n. map saying (take n (t .rules))) e in
+    let all : count - 0 ≡ count = omega arith in
+    record {
+      left = λ j. rulesFrom (all j) (none j) xs;
+      inside = omega arith;
+      filled = e;
+      marks = λ p. ap (λ s. has s p) m ∙ none-has p ∙ sym (ap (λ l. elem p (precedences l)) none);
+    }
 
 module _ (t : RuleTable) (met : Precedences) (count i at : ℕ) (xs : List ℕ) (turn : i < count) (held : Found t met count i at xs) where
   test : _≡_ {A = ℕ → Bool} (has met) (λ p. elem p (precedences (said t)))

@@ -82,29 +82,29 @@ made-from : {r : Result ℕ Refusal} {n : ℕ} (P : ℕ → Type 0) → r ≡ Ok
 made-from P e p = subst (λ x. made x P) (sym e) p
 
 -- three writes in a row are the sheet
-pub sheet-done : (h : List ℕ) (rs : List Said) (m ts : List ℕ) (n a₁ a₂ : ℕ) (m₁ m₂ m₃ : List ℕ) (r : Result ℕ Refusal)
-    → ts ≡ trailer rs → n ≡ length (sheetOctets h rs) → n ≤ 16384 → n ≤ length m
+pub sheet-done : (h : List ℕ) (rs : List Said) (m ts : List ℕ) (a₁ a₂ : ℕ) (m₁ m₂ m₃ : List ℕ) (r : Result ℕ Refusal)
+    → ts ≡ trailer rs → length (sheetOctets h rs) ≤ 16384 → length (sheetOctets h rs) ≤ length m
     → memory.Writes 0 h m (Ok a₁) m₁ → a₂ ≡ a₁ + length (rulesOctets rs) → m₂ ≡ memory.written a₁ (rulesOctets rs) m₁ → memory.Writes a₂ ts m₂ r m₃
     → sound rs ≡ true
     → Writes h rs m r m₃ × made r (λ k. sheetFrom (take k m₃) ≡ Ok (length h, rs))
-sheet-done h rs m ts n a₁ a₂ m₁ m₂ m₃ r trails is limit room w₁ at₂ q₂ w₃ sounds =
+sheet-done h rs m ts a₁ a₂ m₁ m₂ m₃ r trails limit room w₁ at₂ q₂ w₃ sounds =
     let xs = sheetOctets h rs in
     let long = length-sheet h rs in
-    let first = writes-ok 0 h m (Ok a₁) m₁ (omega (arith, is, room, long)) w₁ in
+    let first = writes-ok 0 h m (Ok a₁) m₁ (omega (arith, room, long)) w₁ in
     let at₁ : a₁ ≡ 0 + length h = same-ok (first .0) refl in
-    let as₁ : length m₁ ≡ length m = ap length (first .1) ∙ length-written 0 h m (omega (arith, is, room, long)) in
-    let as₂ : length m₂ ≡ length m = ap length q₂ ∙ length-written a₁ (rulesOctets rs) m₁ (omega (arith, is, room, long, at₁, as₁)) ∙ as₁ in
+    let as₁ : length m₁ ≡ length m = ap length (first .1) ∙ length-written 0 h m (omega (arith, room, long)) in
+    let as₂ : length m₂ ≡ length m = ap length q₂ ∙ length-written a₁ (rulesOctets rs) m₁ (omega (arith, room, long, at₁, as₁)) ∙ as₁ in
     let three : length ts ≡ 3 = ap length trails in
-    let last = writes-ok a₂ ts m₂ r m₃ (omega (arith, is, room, long, at₁, at₂, as₂, three)) w₃ in
+    let last = writes-ok a₂ ts m₂ r m₃ (omega (arith, room, long, at₁, at₂, as₂, three)) w₃ in
     let total : a₂ + length ts ≡ length xs = omega (arith, long, at₁, at₂, three) in
     let gives : r ≡ Ok (length xs) = last .0 ∙ ap (λ k. Ok k) total in
     let all : m₃ ≡ xs ++ drop (length xs) m
-        = written-three 0 h (rulesOctets rs) ts m a₁ a₂ m₁ m₂ m₃ (omega (arith, is, room, long, three)) at₁ (first .1) at₂ q₂ (last .1)
+        = written-three 0 h (rulesOctets rs) ts m a₁ a₂ m₁ m₂ m₃ (omega (arith, room, long, three)) at₁ (first .1) at₂ q₂ (last .1)
           ∙ ap (λ l. (h ++ (rulesOctets rs ++ l)) ++ drop (0 + length (h ++ (rulesOctets rs ++ l))) m) trails
           ∙ ap (λ k. xs ++ drop k m) (zero-add (length xs)) in
-    let yes : (leb (length xs) 16384 && leb (length xs) (length m)) ≡ true = and-from _ _ (le-leb (length xs) 16384 (omega (arith, is, limit))) (le-leb (length xs) (length m) (omega (arith, is, room))) in
+    let yes : (leb (length xs) 16384 && leb (length xs) (length m)) ≡ true = and-from _ _ (le-leb (length xs) 16384 (omega (arith, limit))) (le-leb (length xs) (length m) (omega (arith, room))) in
     let back : sheetFrom (take (length xs) m₃) ≡ Ok (length h, rs)
-        = ap (λ l. sheetFrom (take (length xs) l)) all ∙ ap sheetFrom (take-at xs (drop (length xs) m) _ refl) ∙ sheet-written h rs sounds (omega (arith, is, limit)) in
+        = ap (λ l. sheetFrom (take (length xs) l)) all ∙ ap sheetFrom (take-at xs (drop (length xs) m) _ refl) ∙ sheet-written h rs sounds (omega (arith, limit)) in
     (when-from _ _ yes (gives, all), made-from (λ k. sheetFrom (take k m₃) ≡ Ok (length h, rs)) gives back)
 
 -- a sheet that was read and finds no room

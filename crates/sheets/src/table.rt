@@ -55,6 +55,10 @@ impl RuleTable {
         ensures value { λ r. ⌜ map saying (now r) ≡ said (now (self .entry)) ⌝ }
         ensures bound { λ r. ⌜ length (now r) ≤ 128 ⌝ }
     {
-        &self.rules[0..self.count.min(MOST)]
+        if self.count < MOST {
+            &self.rules[0..self.count]
+        } else {
+            &self.rules
+        }
     }
 }

@@ -25,13 +25,24 @@ impl RuleSet {
     pub fn rule(&self, position: usize) -> Result<&Rule, Refusal>
         ensures { λ r. ⌜ At (rulesOf (now (self .entry))) position r ⌝ }
     {
-        let rules = self.rules();
-        if position < rules.len() {
-            Ok(&rules[position])
-        } else {
-            Err(Refusal::Unknown)
-        }
+        rule_at(self.rules(), position)
     }
+}
+
+fn rule_at(rules: &[Rule], position: usize) -> Result<&Rule, Refusal>
+    ensures { λ r. ⌜ At (map saying (now (rules .entry))) position r ⌝ }
+{
+    if position < rules.len() {
+        Ok(&rules[position])
+    } else {
+        Err(Refusal::Unknown)
+    }
+}
+
+fn say_the_same(left: &[Rule], right: &[Rule]) -> bool
+    ensures { λ r. ⌜ Decides r (map saying (now (left .entry)) ≡ map saying (now (right .entry))) ⌝ }
+{
+    left == right
 }
 
 // Sets are equal where they say the same rules in the same order.
@@ -39,7 +50,7 @@ pub impl PartialEq<RuleSet> for RuleSet as RuleSetPartialEq {
     ghost equals = { λ x y r. Decides r (rulesOf x ≡ rulesOf y) };
 
     fn eq(&self, other: &RuleSet) -> bool {
-        self.rules() == other.rules()
+        say_the_same(self.rules(), other.rules())
     }
 }
 

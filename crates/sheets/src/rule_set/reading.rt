@@ -54,6 +54,16 @@ pub fn read(octets: &[u8]) -> Result<Sheet, Refusal>
     if octets.len() < 3 || octets.len() > LIMIT {
         return Err(Refusal::SheetSize);
     }
+    read_within(octets)
+}
+
+// The sheet in so many octets as a sheet may have.
+fn read_within(octets: &[u8]) -> Result<Sheet, Refusal>
+    requires least { ⌜ 3 ≤ length (now octets) ⌝ }
+    requires most { ⌜ length (now octets) ≤ 16384 ⌝ }
+    ensures value { λ r. ⌜ seen-as sheeting r ≡ sheetFrom (now (octets .entry)) ⌝ }
+    ensures law { λ r. ⌜ Lawful (now (octets .entry)) (seen-as sheeting r) ⌝ }
+{
     let trailer = octets.len() - 3;
     let count = usize::from(octets[trailer]);
     if count == 0 || count > MOST {

@@ -11,8 +11,7 @@ use terms::Refusal;
 pub fn rewrite(octets: &[u8], memory: &mut [u8]) -> Result<Sheet, Refusal>
     ensures { λ r. ⌜ Rewrites (now (octets .entry)) (now (memory .entry)) (seen-as sheeting r) (now (memory .exit)) ⌝ }
 {
-    let sheet = read(octets)?;
-    let heading = sheet.heading;
-    write(&sheet.rules, &octets[0..heading], memory)?;
-    Ok(sheet)
+    let Sheet { heading, rules } = read(octets)?;
+    write(&rules, &octets[0..heading], memory)?;
+    Ok(Sheet { heading, rules })
 }

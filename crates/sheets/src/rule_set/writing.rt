@@ -25,18 +25,35 @@ pub fn write(set: &RuleSet, heading: &[u8], memory: &mut [u8]) -> Result<usize, 
     ensures value { λ r. ⌜ Writes (now (heading .entry)) (rulesOf (now (set .entry))) (now (memory .entry)) r (now (memory .exit)) ⌝ }
     ensures back { λ r. ⌜ made r (λ n. sheetFrom (take n (now (memory .exit))) ≡ Ok (length (now (heading .entry)), rulesOf (now (set .entry)))) ⌝ }
 {
-    let rules = set.rules();
-    let body = rules_size(rules);
     if heading.len() > LIMIT {
         return Err(Refusal::Memory);
     }
-    let size = heading.len() + body + 3;
+    let size = sheet_size(set, heading);
     if size > LIMIT || size > memory.len() {
         return Err(Refusal::Memory);
     }
+    write_fitting(set, heading, memory)
+}
+
+// How many octets the sheet has.
+fn sheet_size(set: &RuleSet, heading: &[u8]) -> usize
+    requires { ⌜ length (now heading) ≤ 16384 ⌝ }
+    ensures { λ r. ⌜ r ≡ length (now (heading .entry)) + length (rulesOctets (rulesOf (now (set .entry)))) + 3 ⌝ }
+{
+    heading.len() + rules_size(set.rules()) + 3
+}
+
+// Writes a sheet that fits.
+fn write_fitting(set: &RuleSet, heading: &[u8], memory: &mut [u8]) -> Result<usize, Refusal>
+    requires limit { ⌜ length (now heading) + length (rulesOctets (rulesOf (now set))) + 3 ≤ 16384 ⌝ }
+    requires room { ⌜ length (now heading) + length (rulesOctets (rulesOf (now set))) + 3 ≤ length (now memory) ⌝ }
+    ensures value { λ r. ⌜ Writes (now (heading .entry)) (rulesOf (now (set .entry))) (now (memory .entry)) r (now (memory .exit)) ⌝ }
+    ensures back { λ r. ⌜ made r (λ n. sheetFrom (take n (now (memory .exit))) ≡ Ok (length (now (heading .entry)), rulesOf (now (set .entry)))) ⌝ }
+{
+    let rules = set.rules();
     let at = write_octets(heading, memory, 0)?;
     let at = write_rules(rules, memory, at)?;
-    let [d0, d1] = octets_of::<2>(body as u128);
+    let [d0, d1] = octets_of::<2>(rules_size(rules) as u128);
     write_octets(&[rules.len() as u8, d0, d1], memory, at)
 }
 

@@ -5,7 +5,7 @@ use native.Mathlib.Omega.{arith}
 use lib.ListN.{length, getD}
 use Rattle.octets.specs.Numbers.{be}
 use Rattle.rules.specs.Rules.{Said, saying}
-use Rattle.layouts.specs.Layout.{componentsOctets, descriptorOctets, ruleBody, ruleOctets}
+use Rattle.layouts.specs.Layout.{componentsOctets, descriptorOctets, ruleOctets}
 use Rattle.layouts.specs.Memory.{written}
 use Rattle.layouts.proofs.Accepts.{length-rule}
 use Rattle.layouts.proofs.Writes.{written-three}
@@ -39,9 +39,8 @@ returns c =
     let r = says b in
     let cs = componentsOctets (c .as-slice-components .result .now) in
     let ds = descriptorOctets (r .descriptor) in
-    let body : 3 + c .components-size-size .result + c .from .result ≡ length (ruleBody r) = omega (arith, length-rule r, components b, c .components-size-size .ensures .value, c .descriptor-size .ensures .value, c .from .ensures) in
-    let high = c .octets-of .ensures ∙ ap (be 2) body in
-    let low = c .octets-of-2 .ensures ∙ ap (be 2) (c .components-size-size .ensures .value ∙ components b) in
+    let high = c .octets-of .ensures ∙ ap (be 2) (c .body-size .ensures .value) in
+    let low = c .octets-of-2 .ensures ∙ ap (be 2) (c .components-size .ensures .value ∙ components b) in
     let header : List ℕ = getD (c .octets-of .result) 0 0 ∷ (getD (c .octets-of .result) 1 0 ∷ (r .precedence ∷ (getD (c .octets-of-2 .result) 0 0 ∷ (getD (c .octets-of-2 .result) 1 0 ∷ [])))) in
     let whole : header ++ (cs ++ ds) ≡ ruleOctets r
         = λ j. (getD (high j) 0 0 ∷ (getD (high j) 1 0 ∷ (r .precedence ∷ (getD (low j) 0 0 ∷ (getD (low j) 1 0 ∷ []))))) ++ (componentsOctets (c .as-slice-components .ensures .value j) ++ ds) in

@@ -7,13 +7,16 @@ use Rattle.terms.specs.Replies.{seen-as}
 use Rattle.layouts.specs.Precedence.{has}
 use Rattle.layouts.specs.Reading.{ruleFrom}
 use Rattle.layouts.specs.Rule.{ruling}
-use Rattle.sheets.proofs.Rows.{found-more, found-stop, found-surplus, found-all}
+use Rattle.sheets.proofs.Rows.{found-none, found-more, found-stop, found-surplus, found-all}
 use Rattle.sheets.proofs.rule_set.reading.read_rules.Needs as need
 use Rattle.sheets.proofs.rule_set.reading.read_rules.Needs.{After-read-rule}
 
 -- what was read at this turn
 read : (c : After-read-rule) → ruleFrom (has (c .loop-i .met)) (drop (c .loop-i .at) (c .args .octets .now)) ≡ seen-as ruling (c .read-rule .result)
 read c = sym (c .read-rule .ensures .value ∙ ap (ruleFrom (has (c .loop-i .met))) (take-rest (c .args .octets .now) (c .loop-i .at)))
+
+pub loop-i-holds : need.loop-i-holds
+loop-i-holds c = found-none (c .empty-table .result) (c .none-met .result) (c .args .count) (c .args .octets .now) (c .empty-table .ensures) (c .none-met .ensures)
 
 pub returns-in-Break-rule : need.returns-in-Break-rule
 returns-in-Break-rule c =

@@ -4,7 +4,7 @@ use lib.ListN.{length}
 use Rattle.rules.specs.Rules.{saying}
 use Rattle.layouts.specs.Layout.{componentsOctets}
 use Rattle.layouts.proofs.Accepts.{length-rule}
-use Rattle.layouts.proofs.rule.rule_size.Needs as need
+use Rattle.layouts.proofs.rule.body_size.Needs as need
 
 pub returns : need.returns
 returns c =

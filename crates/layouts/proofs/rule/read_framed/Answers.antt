@@ -10,16 +10,16 @@ use Rattle.layouts.specs.Precedence.{has}
 use Rattle.layouts.specs.Reading.{Framed, componentsIn, frameFrom}
 use Rattle.layouts.specs.Rule.{framing}
 use Rattle.layouts.proofs.Accepts.{componentsPart, rule-stops, rule-met, rule-ok}
-use Rattle.layouts.proofs.rule.read_rule.Needs as need
-use Rattle.layouts.proofs.rule.read_rule.Needs.{After-read-components}
+use Rattle.layouts.proofs.rule.read_framed.Needs as need
+use Rattle.layouts.proofs.rule.read_framed.Needs.{After-read-components}
 
 module _ (c : After-read-components) where
   frame : Framed
-  frame = framing (c .in-Continue-precedence .field-0)
+  frame = framing (c .args .frame)
 
   framed : frameFrom (c .args .octets .now) ≡ Ok frame
   unfolding frame
-  framed = sym (c .read-frame .ensures .value) ∙ ap (seen-as framing) (c .in-Continue-precedence .was tt)
+  framed = c .pre .framed
 
   components : componentsIn (componentsPart frame (c .args .octets .now)) ≡ seen-as listed (c .read-components .result)
   unfolding frame
@@ -32,7 +32,7 @@ pub returns-in-Break-components : need.returns-in-Break-components
 unfolding frame
 returns-in-Break-components c =
     let b = need.at·returns-in-Break-components c .After-read-components in
-    let p = err-from-errBy (c .from-residual-in-Break-components .result) (c .from-residual-in-Break-components .ensures .1) in
+    let p = err-from-errBy (c .from-residual .result) (c .from-residual .ensures .1) in
     rw (p .1, p .2)
     (record {
       value = sym (rule-stops (has (c .args .met .now)) (c .args .octets .now) (frame b) (framed b) _ (components b ∙ ap (seen-as listed) (c .in-Break-components .was tt)));
@@ -56,5 +56,5 @@ returns c =
     record {
       value = sym (rule-ok (has (c .args .met .now)) (c .args .octets .now) (frame b) (framed b) _ _
                    (components b ∙ ap (seen-as listed) (c .in-Continue-components .was tt)) (sym (c .in-Some .ensures tt)) (sym (c .if-contains .ensures tt)));
-      inside = c .in-Continue-precedence .ensures tt .inside .1;
+      inside = c .pre .inside .1;
     }
