@@ -1,4 +1,7 @@
 // Command lines.
+ghost use mathlib.Core.Path.{_≡_};
+ghost use Prim.Native.Nat.{_≤_};
+ghost use lib.ListN.{length, getD};
 ghost use Rattle.texts.specs.Commands.{ReadsLine};
 use crate::hex::HexFault;
 use crate::hex::read_hex;
@@ -16,9 +19,20 @@ pub enum LineFault {
 pub fn read_line(line: &[u8], memory: &mut [u8]) -> Result<usize, LineFault>
     ensures { λ r. ⌜ ReadsLine (now (line .entry)) (now (memory .entry)) r (now (memory .exit)) ⌝ }
 {
-    let [b'S', b' ', text @ ..] = line else {
+    let [b'S', b' ', ..] = line else {
         return Err(LineFault::Unknown);
     };
+    read_sheet(line, memory)
+}
+
+// Reads what stands behind the letter and the space.
+fn read_sheet(line: &[u8], memory: &mut [u8]) -> Result<usize, LineFault>
+    requires length { ⌜ 2 ≤ length (now line) ⌝ }
+    requires letter { ⌜ getD (now line) 0 0 ≡ 83 ⌝ }
+    requires space { ⌜ getD (now line) 1 0 ≡ 32 ⌝ }
+    ensures { λ r. ⌜ ReadsLine (now (line .entry)) (now (memory .entry)) r (now (memory .exit)) ⌝ }
+{
+    let text = &line[2..];
     if text.is_empty() {
         return Err(LineFault::Hex {
             fault: HexFault::NotHex,

@@ -3,7 +3,7 @@ ghost use denote.Ref.{now};
 ghost use mathlib.Core.Path.{_≡_};
 ghost use mathlib.Core.Bool.{true};
 ghost use mathlib.Core.List.{_++_};
-ghost use Prim.Native.Nat.{_*_, _<_, _≤_};
+ghost use Prim.Native.Nat.{_*_, _%_, _<_, _≤_};
 ghost use lib.ListN.{length, drop};
 ghost use Rattle.std.specs.declared.option.Option.the-variants.{Some};
 ghost use Rattle.texts.specs.Hexes.{digit, hexOf, isDigit, allDigits, value, paired, ReadsHex};
@@ -56,11 +56,20 @@ pub fn read_hex(text: &[u8], memory: &mut [u8]) -> Result<usize, HexFault>
     if !is_hex(text) {
         return Err(HexFault::NotHex);
     }
+    decode(text, memory)
+}
+
+// Reads digits in pairs.
+fn decode(text: &[u8], memory: &mut [u8]) -> Result<usize, HexFault>
+    requires even { ⌜ length (now text) % 2 ≡ 0 ⌝ }
+    requires digits { ⌜ allDigits (now text) ≡ true ⌝ }
+    ensures { λ r. ⌜ ReadsHex (now (text .entry)) (now (memory .entry)) r (now (memory .exit)) ⌝ }
+{
     let count = text.len() / 2;
     if memory.len() < count {
         return Err(HexFault::NoRoom);
     }
-    decode(text, count, memory);
+    fill(memory, text, count);
     Ok(count)
 }
 
@@ -81,7 +90,8 @@ fn is_digit(c: u8) -> bool
     (b'0' <= c && c <= b'9') || (b'A' <= c && c <= b'F')
 }
 
-fn decode(text: &[u8], count: usize, memory: &mut [u8])
+// The first octets of the memory, each from two digits.
+fn fill(memory: &mut [u8], text: &[u8], count: usize)
     requires digits { ⌜ allDigits (now text) ≡ true ⌝ }
     requires even { ⌜ length (now text) ≡ 2 * count ⌝ }
     requires room { ⌜ count ≤ length (now memory) ⌝ }

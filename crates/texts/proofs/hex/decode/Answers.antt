@@ -1,15 +1,17 @@
+use mathlib.Core.Path.{refl}
 use native.Mathlib.Omega.{arith}
-use Rattle.texts.proofs.Hexes.{digit-in, paired-more, paired-all}
+use Rattle.texts.specs.Hexes.{paired}
+use Rattle.texts.proofs.Hexes.{stands}
 use Rattle.texts.proofs.hex.decode.Needs as need
 
-pub value-of-requires : need.value-of-requires
-value-of-requires c κs = digit-in (c .args .text .now) _ (omega arith) (c .pre .digits)
-
-pub value-of-requires-in-loop-i : need.value-of-requires-in-loop-i
-value-of-requires-in-loop-i c κs = digit-in (c .args .text .now) _ (omega arith) (c .pre .digits)
-
-pub loop-i-again : need.loop-i-again
-loop-i-again c = paired-more (c .args .text .now) (c .loop-i .memory) (c .args .memory .now) (c .loop-i .i) _ (omega arith) (omega arith) (cc (c .value-of .ensures .value, c .value-of-in-loop-i .ensures .value)) (c .loop-i .inv)
+pub returns-then-memory-count : need.returns-then-memory-count
+returns-then-memory-count c =
+    let text = c .args .text .now in
+    let p = stands text (c .pre .even) (c .pre .digits) in
+    (paired text, p .0, omega (arith, p .1), refl)
 
 pub returns : need.returns
-returns c = paired-all (c .args .text .now) (c .loop-i .memory) (c .args .memory .now) (c .loop-i .i) (c .args .count) (omega arith) (c .pre .even) (c .loop-i .inv)
+returns c =
+    let text = c .args .text .now in
+    let p = stands text (c .pre .even) (c .pre .digits) in
+    (paired text, p .0, p .1, c .fill .ensures)

@@ -3,7 +3,7 @@ use mathlib.Core.List.{_++_}
 use Prim.Native.Nat.{_*_}
 use lib.ListN.{take, drop}
 use Rattle.texts.specs.Hexes.{paired}
-use Rattle.texts.proofs.hex.decode.Given as given
+use Rattle.texts.proofs.hex.fill.Given as given
 
 -- the octets so far, then those of the text that is left; behind them the memory is as it was
 abbrev pub Inv-loop-i : given.InvT-loop-i

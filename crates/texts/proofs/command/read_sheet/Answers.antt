@@ -1,21 +1,15 @@
 use mathlib.Core.Path.{_≡_, refl, sym}
 use mathlib.Core.List.{_∷_}
-use Prim.Native.Nat.{_≤_, _<_}
+use Prim.Native.Nat.{_<_}
 use native.Mathlib.Omega.{arith}
-use borrow.Author.Needs.{needs}
-use lib.ListN.{length, getD}
+use lib.ListN.{length}
 use Rattle.std.proofs.shelf.Tests.{eqb-true, eqb-false}
 use Rattle.texts.proofs.Lines.{behind, begins, sheet-line, no-text, hex-refused}
-use Rattle.texts.proofs.command.read_line.Needs as need
-use Rattle.texts.proofs.command.read_line.Needs.{After-is-empty}
+use Rattle.texts.proofs.command.read_sheet.Needs as need
+use Rattle.texts.proofs.command.read_sheet.Needs.{After-is-empty}
 
 line-is : (c : After-is-empty) → c .args .line .now ≡ 83 ∷ (32 ∷ behind (c .args .line .now))
-line-is c =
-    let line = c .args .line .now in
-    let a : getD line 0 0 ≡ 83 = search needs in
-    let b : getD line 1 0 ≡ 32 = search needs in
-    let two : 2 ≤ length line = search needs in
-    begins line two a b
+line-is c = begins (c .args .line .now) (c .pre .length) (c .pre .letter) (c .pre .space)
 
 pub returns-then-is-empty : need.returns-then-is-empty
 returns-then-is-empty c =
