@@ -93,7 +93,7 @@ unfolding Coded
 mode-read m [] x e = case (Coded m []) (eqb m 2) SmallestDelay x None e (λ h. (sym (eqb-true m 2 h), refl, refl)) (λ e₁. absurd (none e₁))
 mode-read m (i ∷ []) x e =
     let says : (n : ℕ) → eqb m n ≡ true → Coded n (i ∷ []) x → Coded m (i ∷ []) x = λ n h k. (k .0 ∙ sym (eqb-true m n h), k .1, k .2) in
-    branch (Coded m (i ∷ [])  x) (eqb m 1) x _ _ e (λ h f. says 1 h (active-read i x f)) (λ e₁.
+    branch (Coded m (i ∷ []) x) (eqb m 1) x _ _ e (λ h f. says 1 h (active-read i x f)) (λ e₁.
     branch (Coded m (i ∷ []) x) (eqb m 3) x _ _ e₁ (λ h f. says 3 h (load-read i x f)) (λ e₂.
     branch (Coded m (i ∷ []) x) (eqb m 4) x _ _ e₂ (λ h f. says 4 h (priority-read i x f)) (λ e₃. absurd (none e₃))))
 mode-read m (i ∷ (j ∷ is)) x e = absurd (none e)
@@ -109,11 +109,11 @@ pub descriptor-read : (xs : List ℕ) (d : Descriptor) → descriptorFrom xs ≡
 unfolding Coded
 descriptor-read xs d e =
     branch _ (leb 3 (length xs) && eqb (getD xs 0 0) (length xs)) d _ None e (λ h f.
-      let q = and-parts (leb 3 (length xs)) (eqb (getD xs 0 0) (length xs)) h in
-      let parts = descriptor-parts (functionalityFrom (getD xs 1 0)) (modeFrom (getD xs 2 0) (drop 3 xs)) d f in
-      let functionality = functionality-read (getD xs 1 0) (d .functionality) (parts .0) in
-      let mode = mode-read (getD xs 2 0) (drop 3 xs) (d .mode) (parts .1) in
-      (whole xs d (leb-true 3 (length xs) (q .0)) (eqb-true _ _ (q .1)) functionality (mode .0) (mode .1), mode .2))
+    let q = and-parts (leb 3 (length xs)) (eqb (getD xs 0 0) (length xs)) h in
+    let parts = descriptor-parts (functionalityFrom (getD xs 1 0)) (modeFrom (getD xs 2 0) (drop 3 xs)) d f in
+    let functionality = functionality-read (getD xs 1 0) (d .functionality) (parts .0) in
+    let mode = mode-read (getD xs 2 0) (drop 3 xs) (d .mode) (parts .1) in
+    (whole xs d (leb-true 3 (length xs) (q .0)) (eqb-true _ _ (q .1)) functionality (mode .0) (mode .1), mode .2))
     (λ f. absurd (none f))
   where
     whole : (ys : List ℕ) (x : Descriptor) → 3 ≤ length ys → getD ys 0 0 ≡ length ys → functionalityCode (x .functionality) ≡ getD ys 1 0 → modeCode (x .mode) ≡ getD ys 2 0 → information (x .mode) ≡ drop 3 ys → descriptorOctets x ≡ ys

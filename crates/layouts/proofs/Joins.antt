@@ -48,8 +48,8 @@ module _ {X : Type 0} (f : X → List ℕ) (xs : List X) (at : ℕ) (m₀ : List
         record {
           end-is = omega (arith, p, so-far .end-is, ap length step, length-append ys y);
           memory-is =
-            q ∙ (λ j. written (so-far .end-is j) y (so-far .memory-is j))
-            ∙ written-then at ys y m₀ (omega (arith, joined-room f xs i d within)) ∙ ap (λ l. written at l m₀) (sym step);
+              q ∙ (λ j. written (so-far .end-is j) y (so-far .memory-is j))
+              ∙ written-then at ys y m₀ (omega (arith, joined-room f xs i d within)) ∙ ap (λ l. written at l m₀) (sym step);
         }
 
   pub placed-all : (i end : ℕ) (m : List ℕ) → length xs ≤ i → Placed f xs at m₀ i end m → (end ≡ at + length (joined f xs)) × (m ≡ written at (joined f xs) m₀)

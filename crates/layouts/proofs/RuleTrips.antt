@@ -108,7 +108,7 @@ frame-inv xs f e =
       size = size;
       inside = omega (arith, in-xs, size);
       full = ⊎-elim (λ p. inl (omega (arith, eqb-true n (m + 6) p, components, size))) (λ p. inr (omega (arith, eqb-true n (m + 7) p, components, size)))
-             (or-cases (eqb n (m + 6)) (eqb n (m + 7)) (not-false _ full));
+          (or-cases (eqb n (m + 6)) (eqb n (m + 7)) (not-false _ full));
     }
 
 -- ---- what is written is read back
@@ -210,7 +210,7 @@ parts-octets (x₁ ∷ (x₂ ∷ (x₃ ∷ (x₄ ∷ (x₅ ∷ ys))))) f r o sho
     let body : length (ruleBody r) ≡ field 0 2 xs = omega (arith, ap length inner, length-take-le k ys long, shown .size, shown .full) in
     let first : be 2 (length (ruleBody r)) ≡ x₁ ∷ (x₂ ∷ []) = ap (be 2) body ∙ be-number 2 (x₁ ∷ (x₂ ∷ [])) refl (octets-take 2 xs o) in
     let second : be 2 (length cs) ≡ x₄ ∷ (x₅ ∷ [])
-        = ap (be 2) (count ∙ shown .components) ∙ be-number 2 (x₄ ∷ (x₅ ∷ [])) refl (octets-take 2 (drop 3 xs) (octets-drop 3 xs o)) in
+    = ap (be 2) (count ∙ shown .components) ∙ be-number 2 (x₄ ∷ (x₅ ∷ [])) refl (octets-take 2 (drop 3 xs) (octets-drop 3 xs o)) in
     let size : f .size ≡ suc (suc (suc (suc (suc k)))) = omega (arith, shown .full) in
     (λ i. first i ++ ((p ∙ shown .precedence) i ∷ (second i ++ inner i))) ∙ ap (λ n. take n xs) (sym size)
 

@@ -57,7 +57,7 @@ pub component-read : (ts : List ℕ) (t : ℕ) (xs : List ℕ) (c : Component) �
 component-read ts t xs c o shown =
     let n = sizeOf (kindIn c) in
     let value : valueOctets c ≡ take n xs
-        = ap valueOctets (shown .is) ∙ value-read (kindIn c) (take n xs) (length-take-le n xs (shown .room)) (octets-take n xs o) in
+    = ap valueOctets (shown .is) ∙ value-read (kindIn c) (take n xs) (length-take-le n xs (shown .room)) (octets-take n xs o) in
     (λ i. kind-type t (kindIn c) (shown .known) i ∷ (value i ++ drop n xs)) ∙ ap (λ l. t ∷ l) (take-append-drop n xs)
 
 -- ---- components in a row
@@ -127,7 +127,7 @@ components-read before zero (t ∷ xs) cs o d a e =
     let push = types-push before c in
     let behind : Octets xs = λ i. o (suc i) in
     let rest = components-read (before ++ (c ∷ [])) (sizeOf (kindIn c)) xs cs behind
-               (ap distinct push ∙ distinct-more u (typesIn before) (shown .apart) d) (ap allAlone push ∙ alone-more u (typesIn before) (shown .apart)) e′ in
+    (ap distinct push ∙ distinct-more u (typesIn before) (shown .apart) d) (ap allAlone push ∙ alone-more u (typesIn before) (shown .apart)) e′ in
     record {
       more = c ∷ rest .more;
       is = rest .is ∙ append-assoc before (c ∷ []) (rest .more);

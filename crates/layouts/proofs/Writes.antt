@@ -29,10 +29,10 @@ module _ (i : ℕ) (xs ys m : List ℕ) (room : i + length xs ≤ length m) wher
   written-then =
       let before : take (i + length xs) (written i xs m) ≡ take i m ++ xs = ap (take (i + length xs)) split ∙ take-at (take i m ++ xs) rest _ front in
       let behind : drop (i + length xs + length ys) (written i xs m) ≡ drop (i + length (xs ++ ys)) m
-          = sym (drop-drop (length ys) (i + length xs) (written i xs m))
-            ∙ ap (drop (length ys)) (ap (drop (i + length xs)) split ∙ drop-at (take i m ++ xs) rest _ front)
-            ∙ drop-drop (length ys) (i + length xs) m
-            ∙ ap (λ n. drop n m) (omega (arith, length-append xs ys)) in
+      = sym (drop-drop (length ys) (i + length xs) (written i xs m))
+      ∙ ap (drop (length ys)) (ap (drop (i + length xs)) split ∙ drop-at (take i m ++ xs) rest _ front)
+      ∙ drop-drop (length ys) (i + length xs) m
+      ∙ ap (λ n. drop n m) (omega (arith, length-append xs ys)) in
       rw (before, behind) (append-assoc (take i m) xs (ys ++ drop (i + length (xs ++ ys)) m) ∙ ap (λ l. take i m ++ l) (sym (append-assoc xs ys (drop (i + length (xs ++ ys)) m))))
 
 pub length-written : (i : ℕ) (xs m : List ℕ) → i + length xs ≤ length m → length (written i xs m) ≡ length m

@@ -10,9 +10,9 @@ ghost use Rattle.layouts.specs.Memory.{written};
 ghost use Rattle.layouts.specs.Reading.{kindOf, sizeOf, valueFrom, clash, clashes, componentFrom, componentsIn};
 use crate::memory::place;
 use crate::memory::place_two;
-use crate::numbers::u128_of;
 use crate::numbers::u16_of;
 use crate::numbers::u32_of;
+use crate::numbers::u128_of;
 use octets::octets_of;
 use rules::Component;
 use rules::Components;
@@ -85,17 +85,23 @@ fn value_from(kind: Kind, value: &[u8]) -> Component
             prefix: value[16],
         },
         Kind::Protocol => Component::Protocol { number: value[0] },
-        Kind::Port => Component::Port { number: u16_of(&value[0..2]) },
+        Kind::Port => Component::Port {
+            number: u16_of(&value[0..2]),
+        },
         Kind::PortRange => Component::PortRange {
             low: u16_of(&value[0..2]),
             high: u16_of(&value[2..4]),
         },
-        Kind::SecurityIndex => Component::SecurityIndex { index: u32_of(&value[0..4]) },
+        Kind::SecurityIndex => Component::SecurityIndex {
+            index: u32_of(&value[0..4]),
+        },
         Kind::ServiceType => Component::ServiceType {
             value: value[0],
             mask: value[1],
         },
-        Kind::FlowLabel => Component::FlowLabel { label: u32_of(&value[0..3]) },
+        Kind::FlowLabel => Component::FlowLabel {
+            label: u32_of(&value[0..3]),
+        },
     }
 }
 

@@ -40,8 +40,12 @@ fn priority_from(information: u8) -> Option<Mode>
     ensures { λ r. ⌜ r ≡ priorityFrom information ⌝ }
 {
     match information {
-        1 => Some(Mode::Priority { first: Access::ThreeGpp }),
-        2 => Some(Mode::Priority { first: Access::NonThreeGpp }),
+        1 => Some(Mode::Priority {
+            first: Access::ThreeGpp,
+        }),
+        2 => Some(Mode::Priority {
+            first: Access::NonThreeGpp,
+        }),
         _ => None,
     }
 }
@@ -98,10 +102,22 @@ fn information_of(mode: Mode) -> Option<u8>
     ensures { λ r. ⌜ listOf r ≡ information mode ⌝ }
 {
     match mode {
-        Mode::ActiveStandby { active: Access::ThreeGpp, standby: false } => Some(1),
-        Mode::ActiveStandby { active: Access::ThreeGpp, standby: true } => Some(2),
-        Mode::ActiveStandby { active: Access::NonThreeGpp, standby: false } => Some(3),
-        Mode::ActiveStandby { active: Access::NonThreeGpp, standby: true } => Some(4),
+        Mode::ActiveStandby {
+            active: Access::ThreeGpp,
+            standby: false,
+        } => Some(1),
+        Mode::ActiveStandby {
+            active: Access::ThreeGpp,
+            standby: true,
+        } => Some(2),
+        Mode::ActiveStandby {
+            active: Access::NonThreeGpp,
+            standby: false,
+        } => Some(3),
+        Mode::ActiveStandby {
+            active: Access::NonThreeGpp,
+            standby: true,
+        } => Some(4),
         Mode::SmallestDelay => None,
         Mode::LoadBalancing { k } => Some(k),
         Mode::Priority { first } => Some(first.code()),

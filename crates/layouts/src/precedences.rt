@@ -14,7 +14,9 @@ impl Precedences {
     pub fn none() -> Precedences
         ensures { λ r. ⌜ r ≡ empty ⌝ }
     {
-        Precedences { marks: [false; 256] }
+        Precedences {
+            marks: [false; 256],
+        }
     }
 
     pub fn contains(&self, precedence: u8) -> bool

@@ -86,7 +86,11 @@ fn read_framed(frame: Frame, octets: &[u8], met: &Precedences) -> Result<RuleRea
     ensures value { λ r. ⌜ seen-as ruling r ≡ ruleFrom (has (now (met .entry))) (now (octets .entry)) ⌝ }
     ensures inside { λ r. ⌜ made r (λ x. x .size ≤ length (now (octets .entry))) ⌝ }
 {
-    let Frame { precedence, components: length, size } = frame;
+    let Frame {
+        precedence,
+        components: length,
+        size,
+    } = frame;
     let end = 5 + length;
     let components = read_components(&octets[5..end])?;
     let Some(descriptor) = read_descriptor(&octets[end..size]) else {
@@ -95,7 +99,11 @@ fn read_framed(frame: Frame, octets: &[u8], met: &Precedences) -> Result<RuleRea
     if met.contains(precedence) {
         return Err(Refusal::Precedence);
     }
-    let rule = Rule { precedence, components, descriptor };
+    let rule = Rule {
+        precedence,
+        components,
+        descriptor,
+    };
     Ok(RuleRead { rule, size })
 }
 

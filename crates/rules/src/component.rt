@@ -69,13 +69,32 @@ pub impl PartialEq<Component> for Component as ComponentPartialEq {
         use Component::*;
         match (*self, *other) {
             (MatchAll, MatchAll) => true,
-            (Ipv4 { address: a, mask: m }, Ipv4 { address: b, mask: n }) => a == b && m == n,
-            (Ipv6 { address: a, prefix: m }, Ipv6 { address: b, prefix: n }) => a == b && m == n,
+            (
+                Ipv4 {
+                    address: a,
+                    mask: m,
+                },
+                Ipv4 {
+                    address: b,
+                    mask: n,
+                },
+            ) => a == b && m == n,
+            (
+                Ipv6 {
+                    address: a,
+                    prefix: m,
+                },
+                Ipv6 {
+                    address: b,
+                    prefix: n,
+                },
+            ) => a == b && m == n,
             (Protocol { number: a }, Protocol { number: b }) => a == b,
             (Port { number: a }, Port { number: b }) => a == b,
             (PortRange { low: a, high: m }, PortRange { low: b, high: n }) => a == b && m == n,
             (SecurityIndex { index: a }, SecurityIndex { index: b }) => a == b,
-            (ServiceType { value: a, mask: m }, ServiceType { value: b, mask: n }) => a == b && m == n,
+            (ServiceType { value: a, mask: m }, ServiceType { value: b, mask: n }) => a == b
+                && m == n,
             (FlowLabel { label: a }, FlowLabel { label: b }) => a == b,
             _ => false,
         }

@@ -18,7 +18,7 @@ use Rattle.sheets.specs.Reading.{rulesFrom, countIn, distanceIn, headingIn, sh
 pub size-refused : (ys : List ℕ) → (length ys < 3) ⊎ ((3 ≤ length ys) × (16384 < length ys)) → sheetFrom ys ≡ Err SheetSize
 size-refused ys h =
     let so : (ltb (length ys) 3 || ltb 16384 (length ys)) ≡ true
-        = ⊎-elim (λ l. or-left (ltb (length ys) 3) _ (lt-ltb (length ys) 3 l)) (λ l. or-right (ltb (length ys) 3) _ (lt-ltb 16384 (length ys) (l .1))) h in
+    = ⊎-elim (λ l. or-left (ltb (length ys) 3) _ (lt-ltb (length ys) 3 l)) (λ l. or-right (ltb (length ys) 3) _ (lt-ltb 16384 (length ys) (l .1))) h in
     refuse-so _ _ so
 
 module _ (ys : List ℕ) (three : 3 ≤ length ys) (limit : length ys ≤ 16384) where
@@ -28,7 +28,7 @@ module _ (ys : List ℕ) (three : 3 ≤ length ys) (limit : length ys ≤ 16384)
   pub count-refused : (countIn ys ≡ 0) ⊎ ((countIn ys ≡ 0 → ⊥) × (128 < countIn ys)) → sheetFrom ys ≡ Err RuleCount
   count-refused h =
       let so : (eqb (countIn ys) 0 || ltb 128 (countIn ys)) ≡ true
-          = ⊎-elim (λ e. or-left (eqb (countIn ys) 0) _ (eq-eqb (countIn ys) 0 e)) (λ l. or-right (eqb (countIn ys) 0) _ (lt-ltb 128 (countIn ys) (l .1))) h in
+      = ⊎-elim (λ e. or-left (eqb (countIn ys) 0) _ (eq-eqb (countIn ys) 0 e)) (λ l. or-right (eqb (countIn ys) 0) _ (lt-ltb 128 (countIn ys) (l .1))) h in
       refuse-not _ _ sized ∙ refuse-so _ _ so
 
   module _ (some : countIn ys ≡ 0 → ⊥) (few : countIn ys ≤ 128) where

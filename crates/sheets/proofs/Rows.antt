@@ -62,7 +62,7 @@ module _ (t : RuleTable) (met : Precedences) (count i at : ℕ) (xs : List ℕ) 
   found-more t′ met′ r n read room says counts adds =
       let here = ap (λ f. ruleFrom f (drop at xs)) (sym test) ∙ read in
       let step : rulesFrom (count - i) (said t) (drop at xs) ≡ rulesFrom (count - (i + 1)) (said t ++ (r ∷ [])) (drop n (drop at xs))
-          = ap (λ k. rulesFrom k (said t) (drop at xs)) more ∙ after-ok _ here in
+      = ap (λ k. rulesFrom k (said t) (drop at xs)) more ∙ after-ok _ here in
       record {
         left = (λ j. rulesFrom (count - (i + 1)) (says j) (sym (drop-drop n at xs) j)) ∙ sym step ∙ held .left;
         inside = omega (arith, room, length-drop at xs, held .inside);

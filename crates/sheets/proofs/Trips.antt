@@ -130,8 +130,8 @@ module _ (h : List ℕ) (rs : List Said) (sounds : sound rs ≡ true) (limit : l
   distance-back : distanceIn xs ≡ length body
   distance-back =
       let tail : drop (length xs - 2) xs ≡ be 2 (length body)
-          = ap (drop (length xs - 2)) before-distance
-            ∙ drop-at ((h ++ body) ++ (length rs ∷ [])) (be 2 (length body)) (length xs - 2) (omega (arith, long, length-append h body, length-append (h ++ body) (length rs ∷ []))) in
+      = ap (drop (length xs - 2)) before-distance
+      ∙ drop-at ((h ++ body) ++ (length rs ∷ [])) (be 2 (length body)) (length xs - 2) (omega (arith, long, length-append h body, length-append (h ++ body) (length rs ∷ []))) in
       ap (λ l. number 256 (take 2 l)) tail ∙ number-be 2 (length body) (omega (arith, long, limit))
 
   heading-back : headingIn xs ≡ length h
@@ -162,13 +162,13 @@ module _ (ys : List ℕ) (o : Octets ys) (n : ℕ) (rs : List Said) where
       let room : d ≤ length (drop k ys) = omega (arith, length-drop k ys) in
       let size : length (rulesOctets rs) ≡ d = ap length body ∙ length-take-le d (drop k ys) room in
       let two : be 2 d ≡ drop (length ys - 2) ys
-          = ap (λ l. be 2 (number 256 l)) (take-all 2 (drop (length ys - 2) ys) (omega (arith, length-drop (length ys - 2) ys)))
-            ∙ be-number 2 (drop (length ys - 2) ys) (omega (arith, length-drop (length ys - 2) ys)) (octets-drop (length ys - 2) ys o) in
+      = ap (λ l. be 2 (number 256 l)) (take-all 2 (drop (length ys - 2) ys) (omega (arith, length-drop (length ys - 2) ys)))
+      ∙ be-number 2 (drop (length ys - 2) ys) (omega (arith, length-drop (length ys - 2) ys)) (octets-drop (length ys - 2) ys o) in
       let tail : trailer rs ≡ drop last ys
-          = (λ i. count i ∷ be 2 (size i)) ∙ ap (λ l. countIn ys ∷ l) two ∙ sym (drop-more ys last 0 (omega arith) ∙ ap (λ m. countIn ys ∷ drop m ys) next) in
+      = (λ i. count i ∷ be 2 (size i)) ∙ ap (λ l. countIn ys ∷ l) two ∙ sym (drop-more ys last 0 (omega arith) ∙ ap (λ m. countIn ys ∷ drop m ys) next) in
       let sum : last ≡ k + d = omega arith in
       let rest : rulesOctets rs ++ trailer rs ≡ drop k ys
-          = (λ i. body i ++ (tail ∙ ap (λ m. drop m ys) sum ∙ sym (drop-drop d k ys)) i) ∙ take-append-drop d (drop k ys) in
+      = (λ i. body i ++ (tail ∙ ap (λ m. drop m ys) sum ∙ sym (drop-drop d k ys)) i) ∙ take-append-drop d (drop k ys) in
       sym ((λ i. take (head i) ys ++ rest i) ∙ take-append-drop k ys)
 
 -- the parts of a sheet that was read
@@ -220,13 +220,14 @@ sheet-read ys n rs o e =
     let p = sheet-inv ys n rs e in
     let shown = rules-read (countIn ys) [] (take (distanceIn ys) (drop (headingIn ys) ys)) rs (part-octets ys o) refl (p .read) in
     let count : length rs ≡ countIn ys = ap length (shown .is) ∙ shown .count in
-    let octets : rulesOctets rs ≡ take (distanceIn ys) (drop (headingIn ys) ys) = ap rulesOctets (shown .is) ∙ shown .octets in
-    ( omega (arith, p .heading)
-    , record {
+    let octets : rulesOctets rs ≡ take (distanceIn ys) (drop (headingIn ys) ys) = ap rulesOctets (shown .is) ∙ shown .octets in (
+      omega (arith, p .heading),
+      record {
         sound-set = rules-sound (countIn ys) (take (distanceIn ys) (drop (headingIn ys) ys)) rs (part-octets ys o) (p .some) (p .few) (p .read);
         layout = whole ys o n rs (p .three) (p .inside) (p .heading) count octets;
         limit = p .limit;
-      } )
+      },
+    )
 
 -- a sheet that is written is read so
 reads : (ys h : List ℕ) (rs : List Said) → Written ys h rs → sheetFrom ys ≡ Ok (length h, rs)

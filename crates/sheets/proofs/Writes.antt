@@ -72,7 +72,7 @@ pub sheet-refused : (h : List ℕ) (rs : List Said) (m : List ℕ) → (16384 < 
 sheet-refused h rs m over =
     let n = length (sheetOctets h rs) in
     let no : (leb n 16384 && leb n (length m)) ≡ false
-        = ⊎-elim (λ l. and-left (leb n 16384) _ (lt-leb n 16384 l)) (λ l. and-right (leb n 16384) _ (lt-leb n (length m) l)) over in
+    = ⊎-elim (λ l. and-left (leb n 16384) _ (lt-leb n 16384 l)) (λ l. and-right (leb n 16384) _ (lt-leb n (length m) l)) over in
     when-not _ _ no (refl, refl)
 
 when-from : {b : Bool} (P Q : Type 0) → b ≡ true → P → When b P Q
@@ -99,12 +99,12 @@ sheet-done h rs m ts a₁ a₂ m₁ m₂ m₃ r trails limit room w₁ at₂ q�
     let total : a₂ + length ts ≡ length xs = omega (arith, long, at₁, at₂, three) in
     let gives : r ≡ Ok (length xs) = last .0 ∙ ap (λ k. Ok k) total in
     let all : m₃ ≡ xs ++ drop (length xs) m
-        = written-three 0 h (rulesOctets rs) ts m a₁ a₂ m₁ m₂ m₃ (omega (arith, room, long, three)) at₁ (first .1) at₂ q₂ (last .1)
-          ∙ ap (λ l. (h ++ (rulesOctets rs ++ l)) ++ drop (0 + length (h ++ (rulesOctets rs ++ l))) m) trails
-          ∙ ap (λ k. xs ++ drop k m) (zero-add (length xs)) in
+    = written-three 0 h (rulesOctets rs) ts m a₁ a₂ m₁ m₂ m₃ (omega (arith, room, long, three)) at₁ (first .1) at₂ q₂ (last .1)
+    ∙ ap (λ l. (h ++ (rulesOctets rs ++ l)) ++ drop (0 + length (h ++ (rulesOctets rs ++ l))) m) trails
+    ∙ ap (λ k. xs ++ drop k m) (zero-add (length xs)) in
     let yes : (leb (length xs) 16384 && leb (length xs) (length m)) ≡ true = and-from _ _ (le-leb (length xs) 16384 (omega (arith, limit))) (le-leb (length xs) (length m) (omega (arith, room))) in
     let back : sheetFrom (take (length xs) m₃) ≡ Ok (length h, rs)
-        = ap (λ l. sheetFrom (take (length xs) l)) all ∙ ap sheetFrom (take-at xs (drop (length xs) m) _ refl) ∙ sheet-written h rs sounds (omega (arith, limit)) in
+    = ap (λ l. sheetFrom (take (length xs) l)) all ∙ ap sheetFrom (take-at xs (drop (length xs) m) _ refl) ∙ sheet-written h rs sounds (omega (arith, limit)) in
     (when-from _ _ yes (gives, all), made-from (λ k. sheetFrom (take k m₃) ≡ Ok (length h, rs)) gives back)
 
 -- a sheet that was read and finds no room
@@ -122,11 +122,11 @@ rewrite-refused xs h rs m e m′ s read layout limit w =
     go : (b : Bool) → leb (length xs) (length m) ≡ b → Rewrites xs m (Err e) m′
     go true p =
         let yes : (leb (length (sheetOctets h rs)) 16384 && leb (length (sheetOctets h rs)) (length m)) ≡ true
-            = and-from _ _ within (ap (λ k. leb k (length m)) n ∙ p) in
+        = and-from _ _ within (ap (λ k. leb k (length m)) n ∙ p) in
         absurd (no-refusal (when-true _ _ yes w .0) refl)
     go false p =
         let no : (leb (length (sheetOctets h rs)) 16384 && leb (length (sheetOctets h rs)) (length m)) ≡ false
-            = and-right (leb (length (sheetOctets h rs)) 16384) _ (ap (λ k. leb k (length m)) n ∙ p) in
+        = and-right (leb (length (sheetOctets h rs)) 16384) _ (ap (λ k. leb k (length m)) n ∙ p) in
         let stays = when-false _ _ no w in
         let refused : Result (ℕ × List Said) Refusal = Err e in
         let is : e ≡ Memory = (let q = stays .0 in cc) in

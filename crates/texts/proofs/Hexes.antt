@@ -59,10 +59,11 @@ paired-more text m m₀ i v in-text in-m is (front, behind) =
     let first : 2 * i < length text = omega arith in
     let next : 2 * (i + 1) ≡ 2 * i + 1 + 1 = omega arith in
     let at : paired (drop (2 * i) text) ≡ v ∷ paired (drop (2 * i + 1 + 1) text)
-        = ap paired (drop-more text (2 * i) 0 first ∙ ap (λ l. getD text (2 * i) 0 ∷ l) (drop-more text (2 * i + 1) 0 in-text))
-          ∙ ap (λ w. w ∷ paired (drop (2 * i + 1 + 1) text)) (sym is) in
-    (rw (next, take-more-set m i v in-m, append-assoc) (rw at at front),
-     drop-set-lt (i + 1) m i v (omega arith) ∙ sym (drop-drop 1 i m) ∙ ap (drop 1) behind ∙ drop-drop 1 i m₀)
+    = ap paired (drop-more text (2 * i) 0 first ∙ ap (λ l. getD text (2 * i) 0 ∷ l) (drop-more text (2 * i + 1) 0 in-text))
+    ∙ ap (λ w. w ∷ paired (drop (2 * i + 1 + 1) text)) (sym is) in (
+      rw (next, take-more-set m i v in-m, append-assoc) (rw at at front),
+      drop-set-lt (i + 1) m i v (omega arith) ∙ sym (drop-drop 1 i m) ∙ ap (drop 1) behind ∙ drop-drop 1 i m₀,
+    )
 
 pub paired-all : (text m m₀ : List ℕ) (i count : ℕ) → i ≡ count → length text ≡ 2 * count
     → (take i m ++ paired (drop (2 * i) text) ≡ paired text) × (drop i m ≡ drop i m₀)
@@ -119,7 +120,7 @@ paired-hex [] o = refl
 paired-hex (x ∷ xs) o =
     let byte : x < 256 = o 0 in
     let whole : value (digit (x / 16)) * 16 + value (digit (x % 16)) ≡ x
-        = omega (arith, value-digit (x / 16) (omega arith), value-digit (x % 16) (omega arith)) in
+    = omega (arith, value-digit (x / 16) (omega arith), value-digit (x % 16) (omega arith)) in
     rw (whole, paired-hex xs (λ i. o (suc i)))
 
 -- an even number of digits stands for octets

@@ -26,7 +26,7 @@ module _ {W : Type 0} (took : W → List ℕ → W → Type 0) (f : Formatter W)
   lines-more i d g h within so-far line =
       let x = ruleLine i (saying (getD rules i d)) in
       let step : linesFrom i (map saying (drop i rules)) ≡ x ++ linesFrom (i + 1) (map saying (drop (i + 1) rules))
-          = at-drop-more (λ l. linesFrom i (map saying l)) rules i d within ∙ ap (λ n. x ++ linesFrom n (map saying (drop (i + 1) rules))) (sym (add-one i)) in
+      = at-drop-more (λ l. linesFrom i (map saying l)) rules i d within ∙ ap (λ n. x ++ linesFrom n (map saying (drop (i + 1) rules))) (sym (add-one i)) in
       record {
         text = so-far .text ++ x;
         put = put-more took f (so-far .text) g x h (so-far .put) line;

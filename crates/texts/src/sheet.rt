@@ -24,7 +24,12 @@ pub impl fmt::Display for SheetWords<'_> as SheetDisplay {
     ghost shown = { λ x. Some (sheetWords (now (x .heading)) (map saying (now (x .rules))) (now (x .written))) };
 
     fn fmt<W: fmt::Write>(&self, f: &mut fmt::Formatter<W>) -> fmt::Result {
-        write!(f, "ok\n heading [{}], {} octets\n", Hex(self.heading), self.heading.len())?;
+        write!(
+            f,
+            "ok\n heading [{}], {} octets\n",
+            Hex(self.heading),
+            self.heading.len()
+        )?;
         write_rules(f, self.rules)?;
         write!(f, " written back [{}], the same octets", Hex(self.written))
     }

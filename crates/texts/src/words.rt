@@ -101,7 +101,11 @@ impl fmt::Display for ComponentWords as ComponentDisplay {
             Component::Port { number } => write!(f, "port {number}"),
             Component::PortRange { low, high } => write!(f, "ports {low} to {high}"),
             Component::SecurityIndex { index } => {
-                write!(f, "security parameter index {}", Hex(&octets_of::<4>(u128::from(index))))
+                write!(
+                    f,
+                    "security parameter index {}",
+                    Hex(&octets_of::<4>(u128::from(index)))
+                )
             }
             Component::ServiceType { value, mask } => {
                 write!(f, "type of service {} mask {}", Hex(&[value]), Hex(&[mask]))
@@ -150,12 +154,23 @@ pub impl fmt::Display for RuleWords<'_> as RuleDisplay {
         let rule = self.0;
         write!(f, "precedence {}", rule.precedence)?;
         write_components(f, rule.components.as_slice())?;
-        let Descriptor { functionality, mode } = rule.descriptor;
-        write!(f, "; {}; {}", ModeWords(mode), FunctionalityWords(functionality))
+        let Descriptor {
+            functionality,
+            mode,
+        } = rule.descriptor;
+        write!(
+            f,
+            "; {}; {}",
+            ModeWords(mode),
+            FunctionalityWords(functionality)
+        )
     }
 }
 
-fn write_components<W: fmt::Write>(f: &mut fmt::Formatter<W>, components: &[Component]) -> fmt::Result
+fn write_components<W: fmt::Write>(
+    f: &mut fmt::Formatter<W>,
+    components: &[Component],
+) -> fmt::Result
     ensures { λ r. ⌜ Prints took (now (f .entry)) r (componentsWords (now (components .entry))) (now (f .exit)) ⌝ }
 {
     for component in components {

@@ -16,6 +16,6 @@ returns c =
     record {
       value = omega (arith, c .place-value .ensures .value, c .place-at .ensures .value);
       after =
-        c .place-value .ensures .after ∙ (λ j. written (c .place-at .ensures .value j) ys (c .place-at .ensures .after j))
-        ∙ written-then (c .args .at) (t ∷ []) ys m (omega arith) ∙ ap (λ x. written (c .args .at) (x ∷ ys) m) is;
+          c .place-value .ensures .after ∙ (λ j. written (c .place-at .ensures .value j) ys (c .place-at .ensures .after j))
+          ∙ written-then (c .args .at) (t ∷ []) ys m (omega arith) ∙ ap (λ x. written (c .args .at) (x ∷ ys) m) is;
     }

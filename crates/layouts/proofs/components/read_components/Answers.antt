@@ -39,18 +39,18 @@ returns-in-Break-component c =
     let p = err-from-errBy (c .from-residual .result) (c .from-residual .ensures .1) in
     rw (p .1, p .2)
     (sym (stop (listed (c .loop-at .found)) (c .loop-at .at) (c .args .octets .now) (c .loop-at-test .taken) _
-      (read (need.at·returns-in-Break-component c .After-read-component) ∙ c .in-Break-component .was tt) (c .loop-at .inv .left)))
+    (read (need.at·returns-in-Break-component c .After-read-component) ∙ c .in-Break-component .was tt) (c .loop-at .inv .left)))
 
 pub returns-then-found-eq0 : need.returns-then-found-eq0
 returns-then-found-eq0 c =
     let found = c .loop-at .found in
     let inv = c .loop-at .inv in
     sym (done (listed found) (c .loop-at .at) (c .args .octets .now) (c .loop-at-test .left) (inv .left)
-         ∙ refuse-so _ _ (eq-eqb _ _ (length-listed found (inv .array) (inv .count) ∙ c .if-found-eq0 .taken)))
+    ∙ refuse-so _ _ (eq-eqb _ _ (length-listed found (inv .array) (inv .count) ∙ c .if-found-eq0 .taken)))
 
 pub returns : need.returns
 returns c =
     let found = c .loop-at .found in
     let inv = c .loop-at .inv in
     sym (done (listed found) (c .loop-at .at) (c .args .octets .now) (c .loop-at-test .left) (inv .left)
-         ∙ refuse-not _ _ (ne-eqb _ _ (λ e. c .if-found-eq0 .left (sym (length-listed found (inv .array) (inv .count)) ∙ e))))
+    ∙ refuse-not _ _ (ne-eqb _ _ (λ e. c .if-found-eq0 .left (sym (length-listed found (inv .array) (inv .count)) ∙ e))))

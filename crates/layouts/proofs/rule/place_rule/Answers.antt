@@ -43,11 +43,11 @@ returns c =
     let low = c .octets-of-2 .ensures ∙ ap (be 2) (c .components-size .ensures .value ∙ components b) in
     let header : List ℕ = getD (c .octets-of .result) 0 0 ∷ (getD (c .octets-of .result) 1 0 ∷ (r .precedence ∷ (getD (c .octets-of-2 .result) 0 0 ∷ (getD (c .octets-of-2 .result) 1 0 ∷ [])))) in
     let whole : header ++ (cs ++ ds) ≡ ruleOctets r
-        = λ j. (getD (high j) 0 0 ∷ (getD (high j) 1 0 ∷ (r .precedence ∷ (getD (low j) 0 0 ∷ (getD (low j) 1 0 ∷ []))))) ++ (componentsOctets (c .as-slice-components .ensures .value j) ++ ds) in
+    = λ j. (getD (high j) 0 0 ∷ (getD (high j) 1 0 ∷ (r .precedence ∷ (getD (low j) 0 0 ∷ (getD (low j) 1 0 ∷ []))))) ++ (componentsOctets (c .as-slice-components .ensures .value j) ++ ds) in
     record {
       value = omega (arith, length-rule r, components b, c .place-at .ensures .value, c .place-components-at .ensures .value, c .place-descriptor .ensures .value);
       after =
-        written-three (c .args .at) header cs ds (c .args .memory .now) _ _ _ _ _ (omega (arith, c .pre, length-rule r, components b))
-        (c .place-at .ensures .value) (c .place-at .ensures .after) (c .place-components-at .ensures .value) (c .place-components-at .ensures .after) (c .place-descriptor .ensures .after)
-        ∙ ap (λ l. written (c .args .at) l (c .args .memory .now)) whole;
+          written-three (c .args .at) header cs ds (c .args .memory .now) _ _ _ _ _ (omega (arith, c .pre, length-rule r, components b))
+          (c .place-at .ensures .value) (c .place-at .ensures .after) (c .place-components-at .ensures .value) (c .place-components-at .ensures .after) (c .place-descriptor .ensures .after)
+          ∙ ap (λ l. written (c .args .at) l (c .args .memory .now)) whole;
     }

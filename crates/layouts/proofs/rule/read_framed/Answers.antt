@@ -45,7 +45,7 @@ returns-then-contains c =
     let b = need.at·returns-then-contains c .After-read-components in
     record {
       value = sym (rule-met (has (c .args .met .now)) (c .args .octets .now) (frame b) (framed b) _ _
-                   (components b ∙ ap (seen-as listed) (c .in-Continue-components .was tt)) (sym (c .in-Some .ensures tt)) (sym (c .if-contains .ensures tt)));
+          (components b ∙ ap (seen-as listed) (c .in-Continue-components .was tt)) (sym (c .in-Some .ensures tt)) (sym (c .if-contains .ensures tt)));
       inside = tt;
     }
 
@@ -55,6 +55,6 @@ returns c =
     let b = need.at·returns c .After-read-components in
     record {
       value = sym (rule-ok (has (c .args .met .now)) (c .args .octets .now) (frame b) (framed b) _ _
-                   (components b ∙ ap (seen-as listed) (c .in-Continue-components .was tt)) (sym (c .in-Some .ensures tt)) (sym (c .if-contains .ensures tt)));
+          (components b ∙ ap (seen-as listed) (c .in-Continue-components .was tt)) (sym (c .in-Some .ensures tt)) (sym (c .if-contains .ensures tt)));
       inside = c .pre .inside .1;
     }

@@ -24,7 +24,7 @@ returns-in-Break-rule c =
     let p = err-from-errBy (c .from-residual .result) (c .from-residual .ensures .1) in
     rw (p .1, p .2)
     (sym (found-stop (here .table) (here .met) (c .args .count) (here .i) (here .at) (c .args .octets .now) (c .loop-i-test .taken) (here .inv) _
-      (read (need.at·returns-in-Break-rule c .After-read-rule) ∙ ap (seen-as ruling) (c .in-Break-rule .was tt))))
+    (read (need.at·returns-in-Break-rule c .After-read-rule) ∙ ap (seen-as ruling) (c .in-Break-rule .was tt))))
 
 pub loop-i-again : need.loop-i-again
 loop-i-again c =

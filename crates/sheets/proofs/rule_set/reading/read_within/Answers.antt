@@ -23,7 +23,7 @@ returns-then-count-eq0 c =
 pub returns-then-trailer-distance : need.returns-then-trailer-distance
 returns-then-trailer-distance c =
     let e = sym (distance-refused (c .args .octets .now) (c .pre .least) (c .pre .most) (λ z. c .if-count-eq0 .left (c .from-count .ensures ∙ z))
-                 (omega (arith, c .from-count .ensures)) (omega (arith, c .distance-in-distance .ensures))) in
+    (omega (arith, c .from-count .ensures)) (omega (arith, c .distance-in-distance .ensures))) in
     record { value = e; law = lawful (c .args .octets .now) _ (λ i. c .typed .octets i .fits) e }
 
 module _ (c : After-read-rules) where
@@ -58,10 +58,11 @@ ghost-result c =
     let b = need.at·ghost-result c .After-read-rules in
     let xs = c .args .octets .now in
     let o : Octets xs = λ i. c .typed .octets i .fits in
-    let positive : 1 ≤ countIn xs = omega (arith, some b) in
-    ( rules-sound (countIn xs) (take (distanceIn xs) (drop (headingIn xs) xs)) (said (c .in-Continue-table .table)) (octets-take (distanceIn xs) (drop (headingIn xs) xs) (octets-drop (headingIn xs) xs o))
-      positive (few b) (read b ∙ ap (seen-as said) (c .in-Continue-table .was tt))
-    , tt )
+    let positive : 1 ≤ countIn xs = omega (arith, some b) in (
+      rules-sound (countIn xs) (take (distanceIn xs) (drop (headingIn xs) xs)) (said (c .in-Continue-table .table)) (octets-take (distanceIn xs) (drop (headingIn xs) xs) (octets-drop (headingIn xs) xs o))
+          positive (few b) (read b ∙ ap (seen-as said) (c .in-Continue-table .was tt)),
+      tt,
+    )
 
 pub returns : need.returns
 returns c =
@@ -69,5 +70,5 @@ returns c =
     let xs = c .args .octets .now in
     let heading : (length xs - 3) - c .distance-in-distance .result ≡ headingIn xs = ap (λ n. (length xs - 3) - n) (c .distance-in-distance .ensures) in
     let e = sym (accepted xs (c .pre .least) (c .pre .most) (some b) (few b) (inside b) (said (c .in-Continue-table .table)) (read b ∙ ap (seen-as said) (c .in-Continue-table .was tt))
-                 ∙ ap (λ n. Ok (n, said (c .in-Continue-table .table))) (sym heading)) in
+    ∙ ap (λ n. Ok (n, said (c .in-Continue-table .table))) (sym heading)) in
     record { value = e; law = lawful xs _ (λ i. c .typed .octets i .fits) e }

@@ -17,4 +17,4 @@ returns-in-Break-write c =
     let cut : sheet .heading ≡ sheet .heading - 0 = omega arith in
     rw (p .1, p .2)
     (rewrite-refused xs (take (sheet .heading - 0) xs) (rulesOf (sheet .rules)) (c .args .memory .now) _ (c .write .last .memory) (sheeting sheet)
-     (c .in-Continue-heading .ensures tt .value) (law .1 .layout ∙ ap (λ n. sheetOctets (take n xs) (rulesOf (sheet .rules))) cut) (law .1 .limit) (c .in-Break-write .ensures tt .value))
+    (c .in-Continue-heading .ensures tt .value) (law .1 .layout ∙ ap (λ n. sheetOctets (take n xs) (rulesOf (sheet .rules))) cut) (law .1 .limit) (c .in-Break-write .ensures tt .value))

@@ -12,9 +12,10 @@ pub loop-rule-again : need.loop-rule-again
 loop-rule-again c =
     let rs = c .args .rules .now in
     let i = c .loop-rule .rule-index in
-    let step = joined-step octetsIn rs i nothing (c .loop-rule-test .taken) in
-    ( omega (arith, c .loop-rule .inv .0, ap length step, length-append (joined octetsIn (take i rs)) (octetsIn (getD rs i nothing)), c .rule-size-size .ensures .value)
-    , omega (arith, c .loop-rule .inv .1, c .rule-size-size .ensures .bound) )
+    let step = joined-step octetsIn rs i nothing (c .loop-rule-test .taken) in (
+      omega (arith, c .loop-rule .inv .0, ap length step, length-append (joined octetsIn (take i rs)) (octetsIn (getD rs i nothing)), c .rule-size-size .ensures .value),
+      omega (arith, c .loop-rule .inv .1, c .rule-size-size .ensures .bound),
+    )
 
 pub returns : need.returns
 returns c =

@@ -32,3 +32,12 @@ returns-in-Unknown c = sym (ap wordsOf (c .in-Unknown .is))
 
 pub returns-in-Delay : need.returns-in-Delay
 returns-in-Delay c = sym (ap wordsOf (c .in-Delay .is))
+
+pub returns-in-NoPacket : need.returns-in-NoPacket
+returns-in-NoPacket c = sym (ap wordsOf (c .in-NoPacket .is))
+
+pub returns-in-NoRule : need.returns-in-NoRule
+returns-in-NoRule c = sym (ap wordsOf (c .in-NoRule .is))
+
+pub returns-in-AnswersMissing : need.returns-in-AnswersMissing
+returns-in-AnswersMissing c = sym (ap wordsOf (c .in-AnswersMissing .is))
