@@ -42,7 +42,7 @@ mod tests {
         Ok(number)
     }
 
-    const SHEETS: [(&str, &str, u8); 32] = [
+    const SHEETS: [(&str, &str, u8); 33] = [
         ("no octet", "", 1),
         ("two octets", "0100", 1),
         ("three octets with a count of 0", "000000", 2),
@@ -71,6 +71,7 @@ mod tests {
             "0008050001010403030602000A",
             4,
         ),
+        ("no rule counted", "0008050001010403030600000A", 2),
         (
             "128 rules counted and one there",
             "0008050001010403030680000A",
