@@ -1,3 +1,4 @@
+#![tactic(auto)]
 // How a rule lies in octets: reading one and writing one.
 mod components;
 mod descriptors;

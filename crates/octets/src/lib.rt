@@ -1,3 +1,4 @@
+#![tactic(auto)]
 // Numbers as octets, the highest first.
 pub mod number;
 

@@ -1,5 +1,5 @@
 -- Components: the type of each, and the column of its value.
-use Rattle.std.specs.Prelude.{◌≡◌, ℕ, ◌^◌, Bool, true, ◌&&◌, List, [], ◌∷◌, ◌++◌, length, take, replicate, Ok, Err, MatchBool, Result, nat_le, nat_lt}
+use Rattle.std.specs.Prelude.{◌≡◌, ℕ, ◌^◌, Bool, true, false, ◌&&◌, ◌==◌, List, [], ◌∷◌, ◌++◌, length, take, replicate, Ok, Err, MatchBool, Result, nat_le, nat_lt}
 use Rattle.terms.specs.declared.refusal.Refusal.{Refusal}
 use Rattle.terms.specs.declared.refusal.Refusal.TheVariants as refusal
 use Rattle.rules.specs.declared.component.Kind.{Kind}
@@ -46,6 +46,19 @@ in_column (PortRange low high) = holds 2 low && (holds 2 high && nat_le low high
 in_column (SecurityIndex index) = holds 4 index
 in_column (ServiceType value mask) = holds 1 value && holds 1 mask
 in_column (FlowLabel label) = nat_lt label (2 ^ 20)
+
+-- the type and the value are the same
+abbrev pub same_component : Component → Component → Bool
+same_component MatchAll MatchAll = true
+same_component (Ipv4 a m) (Ipv4 b n) = a == b && m == n
+same_component (Ipv6 a m) (Ipv6 b n) = a == b && m == n
+same_component (Protocol a) (Protocol b) = a == b
+same_component (Port a) (Port b) = a == b
+same_component (PortRange a m) (PortRange b n) = a == b && m == n
+same_component (SecurityIndex a) (SecurityIndex b) = a == b
+same_component (ServiceType a m) (ServiceType b n) = a == b && m == n
+same_component (FlowLabel a) (FlowLabel b) = a == b
+same_component _ _ = false
 
 -- what an array with a count holds
 abbrev pub listed : Components → List Component

@@ -2,7 +2,6 @@
 use Rattle.std.specs.Prelude.{ℕ, ◌-◌, ◌*◌, Bool, true, ◌&&◌, Some, None, Option, nat_le}
 use Rattle.rules.specs.declared.descriptor.Mode.{Mode}
 use Rattle.rules.specs.declared.descriptor.Mode.TheVariants.{ActiveStandby, SmallestDelay, LoadBalancing, Priority}
-use Rattle.rules.specs.declared.descriptor.Descriptor.{Descriptor}
 
 -- the percentage of a rule's octets that 3GPP is to carry, where the mode splits
 abbrev pub share : Mode → Option ℕ

@@ -1,6 +1,6 @@
 // Components: what a rule asks of a packet.
-ghost use Rattle.std.specs.Prelude.{◌≡◌, ◌<◌, ◌≤◌, [], ◌∷◌, ◌++◌, length, Decides};
-ghost use Rattle.rules.specs.Components.{kind_in, in_column, listed, no_components, Pushes};
+ghost use Rattle.std.specs.Prelude.{◌≡◌, ◌<◌, ◌≤◌, [], ◌∷◌, ◌++◌, length, IsTrue, ◌↔◌};
+ghost use Rattle.rules.specs.Components.{kind_in, in_column, listed, no_components, Pushes, same_component};
 ghost use Rattle.std.specs.Cmp.Rules.{comparing};
 ghost use Rattle.std.proofs.Common.{rules};
 ghost use Rattle.std.specs.Cmp as Keys;
@@ -65,11 +65,14 @@ impl Component {
 }
 
 impl PartialEq for Component {
-    ghost equals = { λ x y r. Decides r (x ≡ y) };
+    ghost eq = { same_component };
 
-    ghost laws = { Keys.partial_equiv_from_equiv (Prim.search (comparing, rules)) };
+    ghost laws = { Prim.search (comparing, rules) };
 
-    fn eq(&self, other: &Component) -> bool {
+    fn eq(&self, other: &Component) -> bool
+        ensures value { result ≡ same_component self.now other.now }
+        ensures decides { IsTrue result ↔ (self.now ≡ other.now) }
+    {
         use Component::*;
         match (*self, *other) {
             (MatchAll, MatchAll) => true,

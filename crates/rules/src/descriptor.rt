@@ -1,9 +1,12 @@
 // Access descriptors: which functionality steers, and in which mode.
-ghost use Rattle.std.specs.Prelude.{◌≡◌, ◌-◌, ◌*◌, Decides};
+ghost use Rattle.std.specs.Prelude.{◌≡◌, ◌-◌, ◌*◌, ◌↔◌, ◌&&◌, IsTrue};
 ghost use Rattle.rules.specs.Descriptors.{share};
+ghost use Rattle.rules.specs.contracts.descriptor.FunctionalityEq.TheImpl.Laws as of_functionality;
+ghost use Rattle.rules.specs.contracts.descriptor.ModeEq.TheImpl.Laws as of_mode;
+ghost use Rattle.std.specs.Cmp.{and_equiv, on_equiv};
 ghost use Rattle.std.specs.Cmp.Rules.{comparing};
+ghost use Rattle.std.specs.Ordering.{on, eq_of_both};
 ghost use Rattle.std.proofs.Common.{rules};
-ghost use Rattle.std.specs.Cmp as Keys;
 
 use terms::Access;
 
@@ -50,15 +53,18 @@ pub struct Descriptor {
 }
 
 impl PartialEq for Descriptor {
-    ghost equals = { λ x y r. Decides r (x ≡ y) };
+    ghost eq = { eq_of_both (on (λ d. d.functionality) ⟦<Functionality as PartialEq>⟧.eq) (on (λ d. d.mode) ⟦<Mode as PartialEq>⟧.eq) };
 
-    ghost laws = { Keys.partial_equiv_from_equiv (Prim.search (comparing, rules)) };
+    ghost laws = { Prim.search (comparing, rules) };
 
-    fn eq(&self, other: &Descriptor) -> bool {
+    fn eq(&self, other: &Descriptor) -> bool
+        ensures value { result ≡ (⟦<Functionality as PartialEq>⟧.eq self.now.functionality other.now.functionality && ⟦<Mode as PartialEq>⟧.eq self.now.mode other.now.mode) }
+        ensures decides { IsTrue result ↔ (self.now ≡ other.now) }
+    {
         self.functionality == other.functionality && self.mode == other.mode
     }
 }
 
 impl Eq for Descriptor {
-    ghost laws = { Prim.search (comparing, rules) };
+    ghost laws = { and_equiv (on_equiv (λ d. d.functionality) of_functionality.laws-law) (on_equiv (λ d. d.mode) of_mode.laws-law) };
 }

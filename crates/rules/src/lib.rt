@@ -1,3 +1,4 @@
+#![tactic(auto)]
 // Steering rules: the components that a packet is matched with, the access
 // descriptor, and a rule of both with its precedence.
 pub mod component;

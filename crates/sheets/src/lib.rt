@@ -1,3 +1,4 @@
+#![tactic(auto)]
 // Sheets of steering rules: read, kept as sound sets, and written.
 pub mod rule_set;
 mod table;

@@ -1,3 +1,4 @@
+#![tactic(auto)]
 // Reads lines from standard input and answers each: `S` and a sheet in hexadecimal.
 use std::io::{BufRead, BufReader};
 use texts::reply;

@@ -1,5 +1,5 @@
 -- Laws of replies in a row.
-use Rattle.std.proofs.Common.{◌≡◌, ℕ, Bool, true, false, Some, None, Ok, Err, Option, Result, sym, refl, ap, ◌∙◌, arith}
+use Rattle.std.proofs.Common.{◌≡◌, ℕ, Bool, true, false, Some, None, Ok, Err, Option, Result, refl, ap, arith}
 use Rattle.terms.specs.Replies.{refuse_if, after, found_or}
 use Rattle.terms.specs.declared.refusal.Refusal.{Refusal}
 

@@ -1,3 +1,4 @@
+#![tactic(auto)]
 // The words that every layer shares: the two accesses, a pair that holds one
 // thing for each of them, and the numbered refusals.
 pub mod access;

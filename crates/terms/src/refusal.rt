@@ -1,9 +1,8 @@
 // The numbered refusals.
-ghost use Rattle.std.specs.Prelude.{◌≡◌, Some, Decides};
+ghost use Rattle.std.specs.Prelude.{◌≡◌, ◌↔◌, ◌==◌, Some, IsTrue};
 ghost use Rattle.terms.specs.Refusals.{number_of, words_of};
 ghost use Rattle.std.specs.Cmp.Rules.{comparing};
 ghost use Rattle.std.proofs.Common.{rules};
-ghost use Rattle.std.specs.Cmp as Keys;
 
 use std::fmt;
 
@@ -74,11 +73,14 @@ impl Refusal {
 }
 
 impl PartialEq for Refusal {
-    ghost equals = { λ x y r. Decides r (x ≡ y) };
+    ghost eq = { λ x y. number_of x == number_of y };
 
-    ghost laws = { Keys.partial_equiv_from_equiv (Prim.search (comparing, rules)) };
+    ghost laws = { Prim.search (comparing, rules) };
 
-    fn eq(&self, other: &Refusal) -> bool {
+    fn eq(&self, other: &Refusal) -> bool
+        ensures value { result ≡ (number_of self.now == number_of other.now) }
+        ensures decides { IsTrue result ↔ (self.now ≡ other.now) }
+    {
         self.number() == other.number()
     }
 }

@@ -1,3 +1,4 @@
+#![tactic(auto)]
 // Text: octets in hexadecimal, rules in words, and command lines.
 pub mod answer;
 pub mod command;

@@ -1,4 +1,4 @@
-use Rattle.std.proofs.Common.{◌≡◌, ℕ, ◌<◌, ◌≤◌, List, length, replicate, sym, ◌∙◌, append-nil, arith}
+use Rattle.std.proofs.Common.{ℕ, ◌≤◌, List, length, replicate, sym, ◌∙◌, append-nil, arith}
 use Rattle.std.proofs.lemmas.List.{length-replicate, length-set, drop_all}
 use Rattle.octets.specs.Numbers.{be}
 use Rattle.octets.proofs.Numbers.{be_step}
