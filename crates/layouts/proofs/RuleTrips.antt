@@ -1,25 +1,21 @@
 -- One rule, there and back.
-use Rattle.std.proofs.Common.{◌≡◌, ℕ, zero, suc, ◌+◌, ◌-◌, ◌*◌, ◌^◌, ◌<◌, ◌≤◌, Bool, true, false, cond, not, ◌&&◌, ◌||◌, eqb, ltb, leb, ◌⊎◌, List, [], ◌∷◌, ◌++◌, length, get_or, take, drop, Some, Ok, sym, refl, ap, ◌∙◌, subst, ap₂, inl, inr, ⊎_elim, append_assoc, arith}
-use Rattle.std.specs.Int.Digits.{number_from_digits}
-use Rattle.std.specs.List.{flat_map}
-use Rattle.std.proofs.lemmas.List.{drop_at, drop-drop, drop-take, length-append, length-drop, length-take-le, take_at, take-append-drop, take-take}
+use Rattle.std.proofs.Common.{◌≡◌, ℕ, zero, suc, ◌+◌, ◌-◌, ◌*◌, ◌<◌, ◌≤◌, Bool, true, false, not, ◌&&◌, ◌||◌, eqb, ltb, leb, ◌⊎◌, List, [], ◌∷◌, ◌++◌, length, get_or, take, drop, Some, Ok, sym, refl, ap, ◌∙◌, ap₂, inl, inr, ⊎_elim, append_assoc, arith}
+use Rattle.std.proofs.lemmas.List.{drop_at, drop-drop, drop-take, length-append, length-take-le, take_at, take-append-drop, take-take}
 use Rattle.std.proofs.lemmas.Bool.{and_from, and_parts, eq-eqb, eqb-false, eqb-true, le-leb, le-ltb, leb-true, lt-ltb, ltb-false, ltb-true, ne_eqb, not-false, not_from_true, or_cases, or_from, or_left, or_parts, or_right}
 use Rattle.octets.specs.Numbers.{Octets, be}
 use Rattle.octets.proofs.Numbers.{be_number, number_be, octets_drop, octets_take}
 use Rattle.terms.specs.Replies.{refuse_if, after, found_or}
 use Rattle.terms.specs.declared.refusal.Refusal.TheVariants as refusal
 use Rattle.terms.proofs.Replies.{after_ok, after_inv, refuse_not, refuse_inv, found_inv}
-use Rattle.rules.specs.Components.{type_of, kind_in, holds, in_column}
+use Rattle.rules.specs.Components.{kind_in, holds, in_column}
 use Rattle.rules.specs.Descriptors.{mode_in_column}
 use Rattle.rules.specs.Rules.{Said, every, distinct, types_in, all_alone, sound_components, sound_rule}
 use Rattle.rules.specs.declared.component.Component.{Component}
 use Rattle.rules.specs.declared.descriptor.Descriptor.{Descriptor}
-use Rattle.rules.specs.declared.descriptor.Mode.{Mode}
-use Rattle.rules.specs.declared.descriptor.Mode.TheVariants.{ActiveStandby, SmallestDelay, LoadBalancing, Priority}
 use Rattle.rules.proofs.Sound.{few_components}
-use Rattle.layouts.specs.Layout.{component_octets, components_octets, value_octets, information, descriptor_octets, rule_body, rule_octets}
-use Rattle.layouts.specs.Reading.{Framed, field, size_of, components_from, components_in, descriptor_from, frame_from, rule_from}
-use Rattle.layouts.proofs.Accepts.{components_part, descriptor_part, length_value, length_rule, rule_ok}
+use Rattle.layouts.specs.Layout.{component_octets, components_octets, descriptor_octets, rule_body, rule_octets}
+use Rattle.layouts.specs.Reading.{Framed, field, components_from, components_in, descriptor_from, frame_from, rule_from}
+use Rattle.layouts.proofs.Accepts.{components_part, descriptor_part, length_value, rule_ok}
 use Rattle.layouts.proofs.Descriptions.{descriptor_written, descriptor_read, length_information}
 use Rattle.layouts.proofs.Values.{size_small}
 use Rattle.layouts.proofs.Trips.{ComponentsRead, components_written, components_read}

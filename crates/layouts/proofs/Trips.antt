@@ -1,10 +1,9 @@
 -- Components, descriptors and rules: what is written is read back, and what is read is what was written.
-use Rattle.std.proofs.Common.{◌≡◌, ℕ, zero, suc, ◌+◌, ◌-◌, ◌*◌, ◌<◌, ◌≤◌, Bool, true, false, cond, not, ◌&&◌, ◌||◌, eqb, ltb, leb, ◌⊎◌, List, [], ◌∷◌, ◌++◌, map, length, get_or, take, drop, Some, None, Ok, Err, Option, Result, sym, refl, ap, ◌∙◌, ap₂, inl, inr, ⊎_elim, append_assoc, append-nil, arith}
-use Rattle.std.specs.List.{flat_map}
+use Rattle.std.proofs.Common.{◌≡◌, ℕ, zero, suc, Bool, true, false, cond, not, eqb, ◌⊎◌, List, [], ◌∷◌, ◌++◌, length, take, drop, Some, Ok, Option, sym, refl, ap, ◌∙◌, inl, inr, ⊎_elim, append_assoc, append-nil, arith}
 use Rattle.std.proofs.lemmas.List.{drop_all, drop_at, take_at, length-append, length-take-le, take-append-drop, map-append}
-use Rattle.std.proofs.lemmas.Bool.{and_from, and_parts, eq-eqb, eqb-true, false≢true, not-true, not_from_true, or_cases, or_from, or_parts}
-use Rattle.octets.specs.Numbers.{Octets, be}
-use Rattle.octets.proofs.Numbers.{octets_drop, octets_take}
+use Rattle.std.proofs.lemmas.Bool.{and_from, and_parts, eqb-true, not-true, or_cases, or_from, or_parts}
+use Rattle.octets.specs.Numbers.{Octets}
+use Rattle.octets.proofs.Numbers.{octets_take}
 use Rattle.terms.proofs.Replies.{after_ok, after_inv}
 use Rattle.rules.specs.Components.{type_of, kind_in, in_column}
 use Rattle.rules.specs.Rules.{elem, every, distinct, types_in, all_alone}
@@ -12,7 +11,7 @@ use Rattle.rules.specs.declared.component.Component.{Component}
 use Rattle.rules.specs.declared.component.Kind.{Kind}
 use Rattle.rules.proofs.Sound.{eqb_flip}
 use Rattle.layouts.specs.Layout.{value_octets, component_octets, components_octets}
-use Rattle.layouts.specs.Reading.{kinds, kind_of, first, size_of, value_from, clash, clashes, component_from, components_from}
+use Rattle.layouts.specs.Reading.{kinds, kind_of, first, size_of, value_from, clashes, component_from, components_from}
 use Rattle.layouts.proofs.Accepts.{ComponentRead, component_ok, component_inv, length_value}
 use Rattle.layouts.proofs.Clashes.{distinct_more, alone_more, types_push}
 use Rattle.layouts.proofs.Rows.{skip}

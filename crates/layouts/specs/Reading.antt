@@ -1,5 +1,5 @@
 -- What octets are read as, and which refusal comes first.
-use Rattle.std.specs.Prelude.{ℕ, zero, suc, ◌+◌, ◌-◌, Bool, true, false, cond, not, ◌&&◌, ◌||◌, List, [], ◌∷◌, ◌++◌, length, take, drop, Some, None, Ok, Err, Option, Result, ◌==◌, nat_eq, nat_le, nat_lt, slice_index}
+use Rattle.std.specs.Prelude.{ℕ, zero, suc, ◌+◌, ◌-◌, Bool, true, false, cond, not, ◌&&◌, ◌||◌, List, [], ◌∷◌, ◌++◌, length, take, drop, Some, None, Ok, Option, Result, ◌==◌, nat_eq, nat_le, nat_lt, slice_index}
 use Rattle.std.specs.Int.Digits.{number_from_digits}
 use Rattle.terms.specs.Replies.{refuse_if, after, found_or}
 use Rattle.terms.specs.declared.access.Access.TheVariants.{ThreeGpp, NonThreeGpp}

@@ -6,14 +6,14 @@ use Rattle.layouts.specs.Reading.{clashes}
 use Rattle.layouts.proofs.Clashes.{clashes_here, clashes_on}
 use Rattle.layouts.proofs.components.clashes_with.Goals as goal
 
-pub returns-then-clash-of : goal.returns-then-clash-of
-returns-then-clash-of c =
-    sym (clashes_here _ c.args.before.now c.loop-component.component-index _ _ c.loop-component-test.true c.kind.ensures c.if-clash-of.ensures)
+pub returns-then-clash_of : goal.returns-then-clash_of
+returns-then-clash_of c =
+    sym (clashes_here _ c.args.before.now c.loop-component.component-index _ _ c.loop-component-test.true c.kind.ensures c.if-clash_of.ensures)
     ∙ c.loop-component.invariant
 
 pub loop-component-preserved : goal.loop-component-preserved
 loop-component-preserved c =
-    clashes_on _ c.args.before.now c.loop-component.component-index _ _ c.loop-component-test.true c.kind.ensures c.if-clash-of.ensures
+    clashes_on _ c.args.before.now c.loop-component.component-index _ _ c.loop-component-test.true c.kind.ensures c.if-clash_of.ensures
     ∙ c.loop-component.invariant
 
 pub returns : goal.returns

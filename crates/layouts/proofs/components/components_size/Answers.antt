@@ -1,4 +1,4 @@
-use Rattle.std.proofs.Common.{◌≡◌, length, get_or, take, ap, ◌∙◌, arith, length-append}
+use Rattle.std.proofs.Common.{length, get_or, take, ap, ◌∙◌, arith, length-append}
 use Rattle.std.proofs.lemmas.List.{take_all}
 use Rattle.rules.specs.declared.component.Component.TheVariants.{MatchAll}
 use Rattle.layouts.specs.Layout.{component_octets, components_octets}
@@ -13,7 +13,7 @@ loop-component-preserved c =
     let i = c.loop-component.component-index in
     let x = get_or cs i MatchAll in
     let step = joined_step component_octets cs i MatchAll c.loop-component-test.true in
-    let size = c.size-of.ensures.value ∙ ap size_of c.kind.ensures in
+    let size = c.size_of.ensures.value ∙ ap size_of c.kind.ensures in
     (omega (arith, c.loop-component.invariant.0, ap length step, length-append (components_octets (take i cs)) (component_octets x), size, length_value x), omega arith)
 
 pub returns : goal.returns

@@ -7,8 +7,8 @@ use Rattle.layouts.proofs.components.place_components.Goals as goal
 pub loop-component-init : goal.loop-component-init
 loop-component-init c = placed_none component_octets c.args.components.now c.args.at c.args.memory.now c.requires
 
-pub place-component-end-requires : goal.place-component-end-requires
-place-component-end-requires c =
+pub place_component-end-requires : goal.place_component-end-requires
+place_component-end-requires c =
     let here = c.loop-component in
     omega (arith, here.auto.memory, placed_room component_octets c.args.components.now c.args.at c.args.memory.now c.requires here.component-index here.end here.memory MatchAll c.loop-component-test.true here.invariant)
 
@@ -16,7 +16,7 @@ pub loop-component-preserved : goal.loop-component-preserved
 loop-component-preserved c =
     let here = c.loop-component in
     placed_more component_octets c.args.components.now c.args.at c.args.memory.now c.requires here.component-index here.end here.memory MatchAll c.loop-component-test.true here.invariant
-    _ _ c.place-component-end.ensures.value c.place-component-end.ensures.after
+    _ _ c.place_component-end.ensures.value c.place_component-end.ensures.after
 
 pub returns : goal.returns
 returns c =

@@ -1,4 +1,4 @@
-use Rattle.std.proofs.Common.{◌≡◌, ◌+◌, ◌≤◌, length, ap, ◌∙◌, arith}
+use Rattle.std.proofs.Common.{◌∙◌, arith}
 use Rattle.layouts.specs.Memory.{written}
 use Rattle.layouts.proofs.Writes.{written_then}
 use Rattle.layouts.proofs.memory.place_two.Goals as goal

@@ -13,9 +13,9 @@ loop-octet-preserved g c plain =
     let xs = c.args.octets.now in
     let i = c.loop-octet.octet-index in
     let so_far = c.loop-octet.invariant plain in
-    let high = c.write-char.ensures.writes so_far.plain (ap is_ok c.in-ok-write-char.was) in
-    let low = c.write-char-in-loop-octet.ensures.writes high.plain (ap is_ok c.in-ok-write-char-2.was) in
-    has_written_of_eq took _ _ _ _ (hex_step xs i _ _ c.loop-octet-test.true (omega arith) c.digit-of.ensures c.digit-of-in-loop-octet.ensures)
+    let high = c.write_char.ensures.writes so_far.plain (ap is_ok c.in_ok-write_char.was) in
+    let low = c.write_char-in-loop-octet.ensures.writes high.plain (ap is_ok c.in_ok-write_char-2.was) in
+    has_written_of_eq took _ _ _ _ (hex_step xs i _ _ c.loop-octet-test.true (omega arith) c.digit_of.ensures c.digit_of-in-loop-octet.ensures)
     (has_written_append took _ _ _ _ _ (has_written_append took _ _ _ _ _ so_far high) low)
 
 pub returns : goal.returns

@@ -10,7 +10,7 @@ pub loop-i-preserved : goal.loop-i-preserved
 loop-i-preserved g c plain =
     let so_far = c.loop-i.invariant plain in
     lines_more g.W.Write.write_str_gives c.args.f.now c.args.rules.now c.loop-i.i-counter nothing c.loop-i.f c.write.new.self c.loop-i-test.true so_far
-    (c.write.ensures.writes so_far.put.plain (ap is_ok c.in-ok-write.was))
+    (c.write.ensures.writes so_far.put.plain (ap is_ok c.in_ok-write.was))
 
 pub returns : goal.returns
 returns g c plain ok = lines_all g.W.Write.write_str_gives c.args.f.now c.args.rules.now c.loop-i.i-counter c.loop-i.f c.loop-i-test.false (c.loop-i.invariant plain)

@@ -9,7 +9,7 @@ loop-component-preserved g c plain =
     let took = g.W.Write.write_str_gives in
     let so_far = c.loop-component.invariant plain in
     has_written_of_eq took _ _ _ _ (components_more c.args.components.now c.loop-component.component-index _ c.loop-component-test.true (search rules))
-    (has_written_append took _ _ _ _ _ so_far (c.write.ensures.writes so_far.plain (ap is_ok c.in-ok-write.was)))
+    (has_written_append took _ _ _ _ _ so_far (c.write.ensures.writes so_far.plain (ap is_ok c.in_ok-write.was)))
 
 pub returns : goal.returns
 returns g c plain ok = rw (take_all _ _ c.loop-component-test.false) at (c.loop-component.invariant plain)

@@ -8,20 +8,20 @@ use Rattle.sheets.specs.Tables.{said}
 use Rattle.sheets.proofs.Refused.{count_refused, distance_refused, rules-refused, accepted}
 use Rattle.sheets.proofs.Trips.{lawful, rules_sound}
 use Rattle.sheets.proofs.rule_set.reading.read_within.Goals as goal
-use Rattle.sheets.proofs.rule_set.reading.read_within.Goals.{After-read-rules}
+use Rattle.sheets.proofs.rule_set.reading.read_within.Goals.{After-read_rules}
 
 pub returns-then-count-eq0 : goal.returns-then-count-eq0
 returns-then-count-eq0 c =
     let e = sym (count_refused c.args.octets.now c.requires.least c.requires.most (rw c.from-count.ensures at c.then-count-eq0.either)) in
-    record { value = e; law = lawful c.args.octets.now _ (λ i. (c.type-inv.octets i).fits) e }
+    record { value = e; law = lawful c.args.octets.now _ (λ i. (c.type_inv.octets i).fits) e }
 
 pub returns-then-trailer-distance : goal.returns-then-trailer-distance
 returns-then-trailer-distance c =
     let e = sym (distance_refused c.args.octets.now c.requires.least c.requires.most (λ z. c.if-count-eq0.false (c.from-count.ensures ∙ z))
-    (omega (arith, c.from-count.ensures)) (omega (arith, c.distance-in-distance.ensures))) in
-    record { value = e; law = lawful c.args.octets.now _ (λ i. (c.type-inv.octets i).fits) e }
+    (omega (arith, c.from-count.ensures)) (omega (arith, c.distance_in-distance.ensures))) in
+    record { value = e; law = lawful c.args.octets.now _ (λ i. (c.type_inv.octets i).fits) e }
 
-module _ (c : After-read-rules) where
+module _ (c : After-read_rules) where
   some : count_in c.args.octets.now ≡ 0 → ⊥
   some z = c.if-count-eq0.false (c.from-count.ensures ∙ z)
 
@@ -29,41 +29,41 @@ module _ (c : After-read-rules) where
   few = omega (arith, c.from-count.ensures)
 
   inside : distance_in c.args.octets.now ≤ length c.args.octets.now - 3
-  inside = omega (arith, c.distance-in-distance.ensures)
+  inside = omega (arith, c.distance_in-distance.ensures)
 
-  read : rules_from (count_in c.args.octets.now) [] (take (distance_in c.args.octets.now) (drop (heading_in c.args.octets.now) c.args.octets.now)) ≡ seen_as said c.read-rules.result
+  read : rules_from (count_in c.args.octets.now) [] (take (distance_in c.args.octets.now) (drop (heading_in c.args.octets.now) c.args.octets.now)) ≡ seen_as said c.read_rules.result
   read =
       let xs = c.args.octets.now in
-      let d = c.distance-in-distance.result in
-      let distance : d ≡ distance_in xs = c.distance-in-distance.ensures in
+      let d = c.distance_in-distance.result in
+      let distance : d ≡ distance_in xs = c.distance_in-distance.ensures in
       let heading : (length xs - 3) - d ≡ heading_in xs = ap (λ n. (length xs - 3) - n) distance in
       let cut : (length xs - 3) - ((length xs - 3) - d) ≡ distance_in xs = omega (arith, distance, inside) in
-      sym (c.read-rules.ensures ∙ (λ i. rules_from (c.from-count.ensures i) [] (take (cut i) (drop (heading i) xs))))
+      sym (c.read_rules.ensures ∙ (λ i. rules_from (c.from-count.ensures i) [] (take (cut i) (drop (heading i) xs))))
 
-pub returns-in-err-table : goal.returns-in-err-table
-returns-in-err-table c =
-    let b = (goal.at.returns-in-err-table c).After-read-rules in
+pub returns-in_err-table : goal.returns-in_err-table
+returns-in_err-table c =
+    let b = (goal.at.returns-in_err-table c).After-read_rules in
     let xs = c.args.octets.now in
-    let p = err_from_is_err_and c.from-residual.result c.from-residual.ensures.1 in
-    let e = sym (rules-refused xs c.requires.least c.requires.most (some b) (few b) (inside b) _ (read b ∙ ap (seen_as said) c.in-err-table.was)) in
-    rw (p.1, p.2) (record { value = e; law = lawful xs _ (λ i. (c.type-inv.octets i).fits) e })
+    let p = err_from_is_err_and c.from_residual.result c.from_residual.ensures.1 in
+    let e = sym (rules-refused xs c.requires.least c.requires.most (some b) (few b) (inside b) _ (read b ∙ ap (seen_as said) c.in_err-table.was)) in
+    rw (p.1, p.2) (record { value = e; law = lawful xs _ (λ i. (c.type_inv.octets i).fits) e })
 
 pub invariant-of-result : goal.invariant-of-result
 invariant-of-result c =
-    let b = (goal.at.invariant-of-result c).After-read-rules in
+    let b = (goal.at.invariant-of-result c).After-read_rules in
     let xs = c.args.octets.now in
-    let o : Octets xs = λ i. (c.type-inv.octets i).fits in
+    let o : Octets xs = λ i. (c.type_inv.octets i).fits in
     let positive : 1 ≤ count_in xs = omega (arith, some b) in (
-      rules_sound (count_in xs) (take (distance_in xs) (drop (heading_in xs) xs)) (said c.in-ok-table.table) (octets_take (distance_in xs) (drop (heading_in xs) xs) (octets_drop (heading_in xs) xs o))
-          positive (few b) (read b ∙ ap (seen_as said) c.in-ok-table.was),
+      rules_sound (count_in xs) (take (distance_in xs) (drop (heading_in xs) xs)) (said c.in_ok-table.table) (octets_take (distance_in xs) (drop (heading_in xs) xs) (octets_drop (heading_in xs) xs o))
+          positive (few b) (read b ∙ ap (seen_as said) c.in_ok-table.was),
       tt,
     )
 
 pub returns : goal.returns
 returns c =
-    let b = (goal.at.returns c).After-read-rules in
+    let b = (goal.at.returns c).After-read_rules in
     let xs = c.args.octets.now in
-    let heading : (length xs - 3) - c.distance-in-distance.result ≡ heading_in xs = ap (λ n. (length xs - 3) - n) c.distance-in-distance.ensures in
-    let e = sym (accepted xs c.requires.least c.requires.most (some b) (few b) (inside b) (said c.in-ok-table.table) (read b ∙ ap (seen_as said) c.in-ok-table.was)
-    ∙ ap (λ n. Ok (n, said c.in-ok-table.table)) (sym heading)) in
-    record { value = e; law = lawful xs _ (λ i. (c.type-inv.octets i).fits) e }
+    let heading : (length xs - 3) - c.distance_in-distance.result ≡ heading_in xs = ap (λ n. (length xs - 3) - n) c.distance_in-distance.ensures in
+    let e = sym (accepted xs c.requires.least c.requires.most (some b) (few b) (inside b) (said c.in_ok-table.table) (read b ∙ ap (seen_as said) c.in_ok-table.was)
+    ∙ ap (λ n. Ok (n, said c.in_ok-table.table)) (sym heading)) in
+    record { value = e; law = lawful xs _ (λ i. (c.type_inv.octets i).fits) e }

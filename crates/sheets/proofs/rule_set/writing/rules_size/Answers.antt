@@ -10,8 +10,8 @@ loop-rule-preserved c =
     let rs = c.args.rules.now in
     let i = c.loop-rule.rule-index in
     let step = joined_step octets_in rs i nothing c.loop-rule-test.true in (
-      omega (arith, c.loop-rule.invariant.0, ap length step, length-append (flat_map octets_in (take i rs)) (octets_in (get_or rs i nothing)), c.rule-size-size.ensures.value),
-      omega (arith, c.loop-rule.invariant.1, c.rule-size-size.ensures.bound),
+      omega (arith, c.loop-rule.invariant.0, ap length step, length-append (flat_map octets_in (take i rs)) (octets_in (get_or rs i nothing)), c.rule_size-size.ensures.value),
+      omega (arith, c.loop-rule.invariant.1, c.rule_size-size.ensures.bound),
     )
 
 pub returns : goal.returns

@@ -4,5 +4,5 @@ use Rattle.sheets.proofs.rule_set.writing.sheet_size.Goals as goal
 
 pub returns : goal.returns
 returns c =
-    let body = c.rules-size.ensures.value ∙ ap (λ l. length (rules_octets l)) c.rules.ensures.value in
+    let body = c.rules_size.ensures.value ∙ ap (λ l. length (rules_octets l)) c.rules.ensures.value in
     omega (arith, body)

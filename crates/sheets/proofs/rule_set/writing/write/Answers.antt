@@ -14,6 +14,6 @@ returns-then-size-gt-LIMIT c =
     let h = c.args.heading.now in
     let rs = rules_of c.args.set.now in
     record {
-      value = sheet_refused h rs c.args.memory.now (⊎_elim (λ l. inl (omega (arith, length_sheet h rs, c.sheet-size-size.ensures, l))) (λ l. inr (omega (arith, length_sheet h rs, c.sheet-size-size.ensures, l.1))) c.then-size-gt-LIMIT.either);
+      value = sheet_refused h rs c.args.memory.now (⊎_elim (λ l. inl (omega (arith, length_sheet h rs, c.sheet_size-size.ensures, l))) (λ l. inr (omega (arith, length_sheet h rs, c.sheet_size-size.ensures, l.1))) c.then-size-gt-LIMIT.either);
       back = tt;
     }

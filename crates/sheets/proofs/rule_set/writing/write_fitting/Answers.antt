@@ -14,12 +14,12 @@ returns c =
     let long = length_sheet c.args.heading.now rs in
     let rules = c.rules-rules.result.now in
     let says = c.rules-rules.ensures.value in
-    let os = c.octets-of.ensures ∙ ap (be 2) (c.rules-size.ensures.value ∙ ap (λ l. length (rules_octets l)) says) in
+    let os = c.octets_of.ensures ∙ ap (be 2) (c.rules_size.ensures.value ∙ ap (λ l. length (rules_octets l)) says) in
     let count : length rules ≡ length rs = sym (length-map rules saying) ∙ ap length says in
-    let trails : length rules ∷ (get_or c.octets-of.result 0 0 ∷ (get_or c.octets-of.result 1 0 ∷ [])) ≡ trailer rs
+    let trails : length rules ∷ (get_or c.octets_of.result 0 0 ∷ (get_or c.octets_of.result 1 0 ∷ [])) ≡ trailer rs
     = λ i. count i ∷ (get_or (os i) 0 0 ∷ (get_or (os i) 1 0 ∷ [])) in
-    let at₂ = same_ok c.write-rules.ensures.value c.in-ok-at-2.was ∙ ap (λ l. c.in-ok-at.at + length (rules_octets l)) says in
-    let m₂ = c.write-rules.ensures.after ∙ ap (λ l. written c.in-ok-at.at (rules_octets l) c.write-octets.new.memory) says in
-    let all = sheet_done c.args.heading.now rs c.args.memory.now _ c.in-ok-at.at c.in-ok-at-2.at _ _ _ c.write-octets-2.result trails
-    (omega (arith, long, c.requires.limit)) (omega (arith, long, c.requires.room)) c.in-ok-at.ensures at₂ m₂ c.write-octets-2.ensures c.args.set.now.sound in
+    let at₂ = same_ok c.write_rules.ensures.value c.in_ok-at-2.was ∙ ap (λ l. c.in_ok-at.at + length (rules_octets l)) says in
+    let m₂ = c.write_rules.ensures.after ∙ ap (λ l. written c.in_ok-at.at (rules_octets l) c.write_octets.new.memory) says in
+    let all = sheet_done c.args.heading.now rs c.args.memory.now _ c.in_ok-at.at c.in_ok-at-2.at _ _ _ c.write_octets-2.result trails
+    (omega (arith, long, c.requires.limit)) (omega (arith, long, c.requires.room)) c.in_ok-at.ensures at₂ m₂ c.write_octets-2.ensures c.args.set.now.sound in
     record { value = all.0; back = all.1 }
