@@ -1,19 +1,7 @@
 -- Rules by what they say.
-use Rattle.std.proofs.Common.{◌≡◌, Bool, true, List, Decides, sym, ap, subst, ◌∙◌, arith}
-use Rattle.std.proofs.lemmas.Bool.Decides.{nat_tests}
-use Rattle.rules.specs.Components.{same_component}
+use Rattle.std.proofs.Common.{◌≡◌, Bool, List, Decides, sym, ap, ◌∙◌}
 use Rattle.rules.specs.Rules.{Said}
 use Rattle.rules.specs.declared.component.Component.{Component}
-
-same_self : (x : Component) → same_component x x ≡ true
-same_self x = grind (arith, nat_tests)
-
-same_is : (x y : Component) → same_component x y ≡ true → x ≡ y
-same_is x y h = grind (arith, nat_tests)
-
--- a component is the same as another exactly where the two are equal
-pub same_component-Decides : (x y : Component) → Decides (same_component x y) (x ≡ y)
-same_component-Decides x y = (same_is x y, λ e. subst (λ z. same_component x z ≡ true) e (same_self x))
 
 -- rules with equal precedence and descriptor say the same exactly where their components are equal
 pub same_said : (x y : Said) (r : Bool) (xs ys : List Component) → xs ≡ x.components → ys ≡ y.components → x.precedence ≡ y.precedence → x.descriptor ≡ y.descriptor → Decides r (xs ≡ ys) → Decides r (x ≡ y)

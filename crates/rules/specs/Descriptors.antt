@@ -1,6 +1,11 @@
 -- Access descriptors.
-use Rattle.std.specs.Prelude.{ℕ, ◌-◌, ◌*◌, Bool, true, ◌&&◌, Some, None, Option, nat_le}
+use Rattle.std.specs.Prelude.{ℕ, ◌-◌, ◌*◌, Bool, true, false, ◌&&◌, ◌==◌, Some, None, Option, nat_le}
+use Rattle.std.specs.Bool.{beq}
+use Rattle.terms.specs.Accesses.{code_of}
+use Rattle.rules.specs.declared.descriptor.Functionality.{Functionality}
+use Rattle.rules.specs.declared.descriptor.Functionality.TheVariants.{OnlyOne, Mptcp, AtsssLl}
 use Rattle.rules.specs.declared.descriptor.Mode.{Mode}
+use Rattle.rules.specs.declared.descriptor.Descriptor.{Descriptor}
 use Rattle.rules.specs.declared.descriptor.Mode.TheVariants.{ActiveStandby, SmallestDelay, LoadBalancing, Priority}
 
 -- the percentage of a rule's octets that 3GPP is to carry, where the mode splits
@@ -16,3 +21,20 @@ mode_in_column (ActiveStandby active standby) = true
 mode_in_column SmallestDelay = true
 mode_in_column (LoadBalancing k) = nat_le 1 k && nat_le k 11
 mode_in_column (Priority first) = true
+
+-- whether two descriptors are the same
+abbrev pub same_functionality : Functionality → Functionality → Bool
+same_functionality OnlyOne OnlyOne = true
+same_functionality Mptcp Mptcp = true
+same_functionality AtsssLl AtsssLl = true
+same_functionality _ _ = false
+
+abbrev pub same_mode : Mode → Mode → Bool
+same_mode (ActiveStandby a s) (ActiveStandby b t) = code_of a == code_of b && beq s t
+same_mode SmallestDelay SmallestDelay = true
+same_mode (LoadBalancing k) (LoadBalancing l) = k == l
+same_mode (Priority a) (Priority b) = code_of a == code_of b
+same_mode _ _ = false
+
+abbrev pub same_descriptor : Descriptor → Descriptor → Bool
+same_descriptor x y = same_functionality x.functionality y.functionality && same_mode x.mode y.mode

@@ -1,3 +1,4 @@
 pub mod Components
 pub mod Descriptors
 pub mod Rules
+pub mod Same

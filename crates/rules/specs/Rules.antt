@@ -1,7 +1,8 @@
 -- What a rule says, and which sets of rules are sound.
 use Rattle.std.specs.Prelude.{ℕ, Bool, true, false, not, ◌&&◌, ◌||◌, List, [], ◌∷◌, map, length, ◌==◌, nat_le}
-use Rattle.rules.specs.Components.{type_of, kind_in, holds, in_column, listed}
-use Rattle.rules.specs.Descriptors.{mode_in_column}
+use Rattle.std.specs.Cmp.Lexicographic.{pointwise}
+use Rattle.rules.specs.Components.{type_of, kind_in, holds, in_column, same_component, listed}
+use Rattle.rules.specs.Descriptors.{mode_in_column, same_descriptor}
 use Rattle.rules.specs.declared.component.Component.{Component}
 use Rattle.rules.specs.declared.descriptor.Descriptor.{Descriptor}
 use Rattle.rules.specs.declared.rule.Rule.{Rule}
@@ -14,6 +15,10 @@ pub record Said : Type 0 where
 
 abbrev pub saying : Rule → Said
 saying r = record { precedence = r.precedence; components = listed r.components; descriptor = r.descriptor }
+
+-- whether two rules say the same
+abbrev pub same_rule : Said → Said → Bool
+same_rule x y = x.precedence == y.precedence && (pointwise same_component x.components y.components && same_descriptor x.descriptor y.descriptor)
 
 abbrev pub elem : ℕ → List ℕ → Bool
 elem n [] = false

@@ -1,9 +1,8 @@
 // Components: what a rule asks of a packet.
 ghost use Rattle.std.specs.Prelude.{◌≡◌, ◌<◌, ◌≤◌, [], ◌∷◌, ◌++◌, length, IsTrue, ◌↔◌};
 ghost use Rattle.rules.specs.Components.{kind_in, in_column, listed, no_components, Pushes, same_component};
-ghost use Rattle.std.specs.Cmp.Rules.{comparing};
-ghost use Rattle.std.proofs.Common.{rules};
-ghost use Rattle.std.specs.Cmp as Keys;
+ghost use Rattle.std.specs.Cmp.{partial_equiv_from_equiv};
+ghost use Rattle.rules.specs.Same.{same_component_equiv};
 
 use terms::Refusal;
 
@@ -67,7 +66,7 @@ impl Component {
 impl PartialEq for Component {
     ghost eq = { same_component };
 
-    ghost laws = { Prim.search (comparing, rules) };
+    ghost laws = { partial_equiv_from_equiv same_component_equiv };
 
     fn eq(&self, other: &Component) -> bool
         ensures value { result ≡ same_component self.now other.now }
@@ -109,7 +108,7 @@ impl PartialEq for Component {
 }
 
 impl Eq for Component {
-    ghost laws = { Prim.search (comparing, rules) };
+    ghost laws = { same_component_equiv };
 }
 
 // The most components that a rule has.

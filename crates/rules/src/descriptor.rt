@@ -1,12 +1,8 @@
 // Access descriptors: which functionality steers, and in which mode.
-ghost use Rattle.std.specs.Prelude.{◌≡◌, ◌-◌, ◌*◌, ◌↔◌, ◌&&◌, IsTrue};
-ghost use Rattle.rules.specs.Descriptors.{share};
-ghost use Rattle.rules.specs.contracts.descriptor.FunctionalityEq.TheImpl.Laws as of_functionality;
-ghost use Rattle.rules.specs.contracts.descriptor.ModeEq.TheImpl.Laws as of_mode;
-ghost use Rattle.std.specs.Cmp.{and_equiv, on_equiv};
-ghost use Rattle.std.specs.Cmp.Rules.{comparing};
-ghost use Rattle.std.specs.Ordering.{on, eq_of_both};
-ghost use Rattle.std.proofs.Common.{rules};
+ghost use Rattle.std.specs.Prelude.{◌≡◌, ◌-◌, ◌*◌, ◌↔◌, IsTrue};
+ghost use Rattle.std.specs.Cmp.{partial_equiv_from_equiv};
+ghost use Rattle.rules.specs.Descriptors.{share, same_descriptor};
+ghost use Rattle.rules.specs.Same.{same_descriptor_equiv};
 
 use terms::Access;
 
@@ -53,12 +49,12 @@ pub struct Descriptor {
 }
 
 impl PartialEq for Descriptor {
-    ghost eq = { eq_of_both (on (λ d. d.functionality) ⟦<Functionality as PartialEq>⟧.eq) (on (λ d. d.mode) ⟦<Mode as PartialEq>⟧.eq) };
+    ghost eq = { same_descriptor };
 
-    ghost laws = { Prim.search (comparing, rules) };
+    ghost laws = { partial_equiv_from_equiv same_descriptor_equiv };
 
     fn eq(&self, other: &Descriptor) -> bool
-        ensures value { result ≡ (⟦<Functionality as PartialEq>⟧.eq self.now.functionality other.now.functionality && ⟦<Mode as PartialEq>⟧.eq self.now.mode other.now.mode) }
+        ensures value { result ≡ same_descriptor self.now other.now }
         ensures decides { IsTrue result ↔ (self.now ≡ other.now) }
     {
         self.functionality == other.functionality && self.mode == other.mode
@@ -66,5 +62,5 @@ impl PartialEq for Descriptor {
 }
 
 impl Eq for Descriptor {
-    ghost laws = { and_equiv (on_equiv (λ d. d.functionality) of_functionality.laws-law) (on_equiv (λ d. d.mode) of_mode.laws-law) };
+    ghost laws = { same_descriptor_equiv };
 }

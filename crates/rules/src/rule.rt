@@ -1,12 +1,9 @@
 // A rule: its precedence, its components and its access descriptor.
-ghost use Rattle.std.specs.Prelude.{◌≡◌, ◌↔◌, ◌&&◌, ◌==◌, IsTrue};
-ghost use Rattle.rules.specs.Components.{listed, same_component};
-ghost use Rattle.rules.specs.Rules.{saying};
-ghost use Rattle.rules.specs.contracts.component.ComponentEq.TheImpl.Laws as of_component;
-ghost use Rattle.rules.specs.contracts.descriptor.DescriptorEq.TheImpl.Laws as of_descriptor;
-ghost use Rattle.std.specs.Cmp.{and_equiv, on_equiv, nat_eq_equiv, partial_equiv_from_equiv};
-ghost use Rattle.std.specs.Cmp.Lexicographic.{lists_equiv, pointwise};
-ghost use Rattle.std.specs.Ordering.{on, eq_of_both};
+ghost use Rattle.std.specs.Prelude.{◌≡◌, ◌↔◌, IsTrue};
+ghost use Rattle.std.specs.Cmp.{on_equiv, partial_equiv_from_equiv};
+ghost use Rattle.std.specs.Ordering.{on};
+ghost use Rattle.rules.specs.Rules.{saying, same_rule};
+ghost use Rattle.rules.specs.Same.{same_rule_equiv};
 
 use crate::component::Components;
 use crate::descriptor::Descriptor;
@@ -21,12 +18,12 @@ pub struct Rule {
 // Rules are equal where they say the same; what lies behind the count of
 // components is nothing that they say.
 impl PartialEq for Rule {
-    ghost eq = { eq_of_both (on (λ r. r.precedence) ◌==◌) (eq_of_both (on (λ r. r.descriptor) ⟦<Descriptor as PartialEq>⟧.eq) (on (λ r. listed r.components) (pointwise same_component))) };
+    ghost eq = { on saying same_rule };
 
-    ghost laws = { partial_equiv_from_equiv (and_equiv (on_equiv (λ r. r.precedence) nat_eq_equiv) (and_equiv (on_equiv (λ r. r.descriptor) of_descriptor.laws-law) (on_equiv (λ r. listed r.components) (lists_equiv of_component.laws-law)))) };
+    ghost laws = { partial_equiv_from_equiv (on_equiv saying same_rule_equiv) };
 
     fn eq(&self, other: &Rule) -> bool
-        ensures value { result ≡ (self.now.precedence == other.now.precedence && (⟦<Descriptor as PartialEq>⟧.eq self.now.descriptor other.now.descriptor && pointwise same_component (listed self.now.components) (listed other.now.components))) }
+        ensures value { result ≡ same_rule (saying self.now) (saying other.now) }
         ensures decides { IsTrue result ↔ (saying self.now ≡ saying other.now) }
     {
         if self.precedence != other.precedence || self.descriptor != other.descriptor {
@@ -37,5 +34,5 @@ impl PartialEq for Rule {
 }
 
 impl Eq for Rule {
-    ghost laws = { and_equiv (on_equiv (λ r. r.precedence) nat_eq_equiv) (and_equiv (on_equiv (λ r. r.descriptor) of_descriptor.laws-law) (on_equiv (λ r. listed r.components) (lists_equiv of_component.laws-law))) };
+    ghost laws = { on_equiv saying same_rule_equiv };
 }

@@ -1,20 +1,18 @@
 -- Rules in a row and whole sheets: what is written is read back, and what is read is what was written.
-use Rattle.std.proofs.Common.{◌≡◌, ℕ, zero, suc, ◌+◌, ◌-◌, ◌<◌, ◌≤◌, Bool, true, false, not, ◌&&◌, ◌||◌, eqb, ltb, leb, List, [], ◌∷◌, ◌++◌, map, length, get_or, take, drop, Ok, Err, Result, sym, refl, ap, ◌∙◌, subst, ap₂, append_assoc, append-nil, arith}
-use Rattle.std.specs.List.{flat_map}
+use Rattle.std.proofs.Common.{◌≡◌, ℕ, zero, suc, ◌+◌, ◌-◌, ◌≤◌, true, false, not, ◌&&◌, ◌||◌, eqb, ltb, leb, List, [], ◌∷◌, ◌++◌, length, get_or, take, drop, Ok, Err, Result, sym, refl, ap, ◌∙◌, append_assoc, append-nil, arith}
 use Rattle.std.specs.Int.Digits.{number_from_digits}
-use Rattle.std.proofs.lemmas.List.{drop_all, drop_at, drop-drop, drop_more, get_or_at, length-append, length-drop, length-take-le, map-append, map_push, nil_from_length, take_all, take-append-drop, take_at}
+use Rattle.std.proofs.lemmas.List.{drop_at, drop-drop, drop_more, get_or_at, length-append, length-drop, length-take-le, map-append, map_push, nil_from_length, take_all, take-append-drop, take_at}
 use Rattle.std.proofs.lemmas.Bool.{and_from, and_parts, eqb-false, le-leb, le-ltb, leb-true, ltb-false, ne_eqb, not-true, or_from, or_parts}
 use Rattle.octets.specs.Numbers.{Octets, be}
-use Rattle.octets.proofs.Numbers.{be_number, length-be, number_be, octets_drop, octets_take}
-use Rattle.terms.specs.Replies.{after}
+use Rattle.octets.proofs.Numbers.{be_number, number_be, octets_drop, octets_take}
 use Rattle.terms.specs.declared.refusal.Refusal.{Refusal}
 use Rattle.terms.specs.declared.refusal.Refusal.TheVariants as refusal
 use Rattle.terms.proofs.Replies.{after_ok, after_inv, refuse_not, refuse_inv}
 use Rattle.rules.specs.Rules.{Said, elem, every, distinct, sound_rule, sound}
 use Rattle.rules.proofs.Sound.{eqb_flip, distinct_push}
 use Rattle.layouts.specs.Layout.{rule_octets}
-use Rattle.layouts.specs.Reading.{field, rule_from}
-use Rattle.layouts.proofs.RuleTrips.{RuleRead, rule_written, rule_read}
+use Rattle.layouts.specs.Reading.{rule_from}
+use Rattle.layouts.proofs.RuleTrips.{rule_written, rule_read}
 use Rattle.sheets.specs.Law.{Written, Lawful}
 use Rattle.sheets.specs.Layout.{rules_octets, trailer, sheet_octets}
 use Rattle.sheets.specs.Reading.{precedences, rules_from, count_in, distance_in, heading_in, sheet_from}

@@ -1,5 +1,5 @@
 -- How a sheet is written.
-use Rattle.std.specs.Prelude.{ℕ, List, [], ◌∷◌, ◌++◌, length}
+use Rattle.std.specs.Prelude.{ℕ, List, ◌∷◌, ◌++◌, length}
 use Rattle.std.specs.List.{flat_map}
 use Rattle.octets.specs.Numbers.{be}
 use Rattle.rules.specs.Rules.{Said}

@@ -1,10 +1,11 @@
 // The rules of a set.
-ghost use Rattle.std.specs.Prelude.{◌≡◌, ◌≤◌, map, length, Decides};
-ghost use Rattle.rules.specs.Rules.{saying};
+ghost use Rattle.std.specs.Prelude.{◌≡◌, ◌≤◌, ◌↔◌, map, length, Decides, IsTrue};
+ghost use Rattle.std.specs.Cmp.{on_equiv, partial_equiv_from_equiv};
+ghost use Rattle.std.specs.Cmp.Lexicographic.{lists_equiv, pointwise};
+ghost use Rattle.std.specs.Ordering.{on};
+ghost use Rattle.rules.specs.Rules.{saying, same_rule};
+ghost use Rattle.rules.specs.Same.{same_rule_equiv};
 ghost use Rattle.sheets.specs.Sets.{rules_of, At};
-ghost use Rattle.std.specs.Cmp.Rules.{comparing};
-ghost use Rattle.std.proofs.Common.{rules, arith};
-ghost use Rattle.std.specs.Cmp as Keys;
 
 use crate::rule_set::RuleSet;
 use crate::table::RuleTable;
@@ -39,22 +40,26 @@ fn rule_at(rules: &[Rule], position: usize) -> Result<&Rule, Refusal>
 }
 
 fn say_the_same(left: &[Rule], right: &[Rule]) -> bool
-    ensures { Decides result (map saying left.now ≡ map saying right.now) }
+    ensures value { result ≡ pointwise same_rule (map saying left.now) (map saying right.now) }
+    ensures decides { Decides result (map saying left.now ≡ map saying right.now) }
 {
     left == right
 }
 
 // Sets are equal where they say the same rules in the same order.
 impl PartialEq for RuleSet {
-    ghost equals = { λ x y r. Decides r (rules_of x ≡ rules_of y) };
+    ghost eq = { on rules_of (pointwise same_rule) };
 
-    ghost laws = { Keys.partial_equiv_from_equiv (first_of (Prim.search (comparing, rules), Prim.grind (arith, Self.row.coded.inj))) };
+    ghost laws = { partial_equiv_from_equiv (on_equiv rules_of (lists_equiv same_rule_equiv)) };
 
-    fn eq(&self, other: &RuleSet) -> bool {
+    fn eq(&self, other: &RuleSet) -> bool
+        ensures value { result ≡ pointwise same_rule (rules_of self.now) (rules_of other.now) }
+        ensures decides { IsTrue result ↔ (rules_of self.now ≡ rules_of other.now) }
+    {
         say_the_same(self.rules(), other.rules())
     }
 }
 
 impl Eq for RuleSet {
-    ghost laws = { first_of (Prim.search (comparing, rules), Prim.grind (arith, Self.row.coded.inj)) };
+    ghost laws = { on_equiv rules_of (lists_equiv same_rule_equiv) };
 }

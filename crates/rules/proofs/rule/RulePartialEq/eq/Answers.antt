@@ -1,7 +1,8 @@
 use Rattle.std.proofs.Common.{◌≡◌, rules}
 use Rattle.std.proofs.lemmas.Slice.Eq.{slice_eq-Decides}
 use Rattle.rules.specs.Rules.{saying}
-use Rattle.rules.proofs.Says.{same_component-Decides, same_said}
+use Rattle.rules.proofs.Says.{same_said}
+use Rattle.rules.specs.Same.{same_component-Decides}
 use Rattle.rules.proofs.rule.RulePartialEq.eq.Goals as goal
 
 pub returns-clause-decides : goal.returns-clause-decides

@@ -1,4 +1,4 @@
-use Rattle.std.proofs.Common.{◌≡◌, ◌-◌, ◌^◌, ◌<◌, ◌≤◌, length, take, drop, ap, ◌∙◌, arith, length-take}
+use Rattle.std.proofs.Common.{◌≡◌, ◌-◌, ◌^◌, ◌<◌, ◌≤◌, length, take, drop, ap, arith, length-take}
 use Rattle.std.specs.Int.Digits.{number_from_digits}
 use Rattle.octets.proofs.Numbers.{number_small, octets_take, octets_drop}
 use Rattle.sheets.specs.Reading.{distance_in}

@@ -48,16 +48,16 @@ returns-in_err-table c =
     let e = sym (rules-refused xs c.requires.least c.requires.most (some b) (few b) (inside b) _ (read b ∙ ap (seen_as said) c.in_err-table.was)) in
     rw (p.1, p.2) (record { value = e; law = lawful xs _ (λ i. (c.type_inv.octets i).fits) e })
 
-pub invariant-of-result : goal.invariant-of-result
-invariant-of-result c =
-    let b = (goal.at.invariant-of-result c).After-read_rules in
+pub invariant_of-result : goal.invariant_of-result
+invariant_of-result c =
+    let b = (goal.at.invariant_of-result c).After-read_rules in
     let xs = c.args.octets.now in
     let o : Octets xs = λ i. (c.type_inv.octets i).fits in
-    let positive : 1 ≤ count_in xs = omega (arith, some b) in (
-      rules_sound (count_in xs) (take (distance_in xs) (drop (heading_in xs) xs)) (said c.in_ok-table.table) (octets_take (distance_in xs) (drop (heading_in xs) xs) (octets_drop (heading_in xs) xs o))
-          positive (few b) (read b ∙ ap (seen_as said) c.in_ok-table.was),
-      tt,
-    )
+    let positive : 1 ≤ count_in xs = omega (arith, some b) in
+    record {
+      sound = rules_sound (count_in xs) (take (distance_in xs) (drop (heading_in xs) xs)) (said c.in_ok-table.table) (octets_take (distance_in xs) (drop (heading_in xs) xs) (octets_drop (heading_in xs) xs o))
+          positive (few b) (read b ∙ ap (seen_as said) c.in_ok-table.was);
+    }
 
 pub returns : goal.returns
 returns c =

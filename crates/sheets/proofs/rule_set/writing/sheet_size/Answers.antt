@@ -1,4 +1,4 @@
-use Rattle.std.proofs.Common.{◌≡◌, length, ap, ◌∙◌, arith}
+use Rattle.std.proofs.Common.{length, ap, ◌∙◌, arith}
 use Rattle.sheets.specs.Layout.{rules_octets}
 use Rattle.sheets.proofs.rule_set.writing.sheet_size.Goals as goal
 

@@ -1,4 +1,4 @@
-use Rattle.std.proofs.Common.{◌≡◌, ◌+◌, ◌≤◌, length, get_or, Ok, sym, ap, ◌∙◌, arith}
+use Rattle.std.proofs.Common.{◌≡◌, ◌+◌, length, get_or, Ok, sym, ap, ◌∙◌, arith}
 use Rattle.layouts.specs.Memory.{written}
 use Rattle.layouts.proofs.Joins.{placed_none, placed_room, placed_more, placed_all}
 use Rattle.sheets.proofs.Writes.{nothing, octets_in, rules_joined, room_for, writes_ok, no_refusal, same_ok}

@@ -5,6 +5,6 @@ use Rattle.sheets.proofs.table.RuleTable.as_slice.Goals as goal
 
 pub returns-else-self-lt-MOST : goal.returns-else-self-lt-MOST
 returns-else-self-lt-MOST c =
-    let rules = c.args.self.now.rules in
-    let l : length rules ≡ 128 = search rules in
-    record { value = ap (map saying) (sym (take_all _ rules (omega (arith, l, c.if-self-lt-MOST.false)))); bound = omega (arith, l) }
+    let array = c.args.self.now.rules in
+    let l : length array ≡ 128 = search rules in
+    record { value = ap (map saying) (sym (take_all _ array (omega (arith, l, c.if-self-lt-MOST.false)))); bound = omega (arith, l) }
