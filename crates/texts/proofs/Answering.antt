@@ -1,7 +1,6 @@
 -- Laws of the answers to lines.
-use Rattle.std.proofs.Common.{◌≡◌, ℕ, ◌+◌, ◌*◌, ◌<◌, ◌≤◌, Bool, true, false, leb, List, [], ◌∷◌, ◌++◌, length, take, drop, Ok, Err, codes, MatchBool, Result, sym, refl, ap, ◌∙◌, subst, append-nil, arith, length-append, MatchResult}
+use Rattle.std.proofs.Common.{◌≡◌, ℕ, ◌≤◌, Bool, true, false, leb, List, ◌++◌, length, take, drop, Ok, Err, codes, MatchBool, Result, sym, refl, ap, ◌∙◌, subst, append-nil, arith, length-append, MatchResult}
 use Rattle.std.proofs.lemmas.List.{drop_all, take_at}
-use Rattle.octets.specs.Numbers.{Octets}
 use Rattle.terms.specs.declared.refusal.Refusal.{Refusal}
 use Rattle.terms.specs.declared.refusal.Refusal.TheVariants.{Memory}
 use Rattle.rules.specs.Rules.{Said}

@@ -1,5 +1,5 @@
 -- Laws of octets as text.
-use Rattle.std.proofs.Common.{◌≡◌, ℕ, zero, suc, ◌+◌, ◌*◌, ◌/◌, ◌%◌, ◌<◌, ◌≤◌, Bool, true, false, ◌&&◌, ltb, List, [], ◌∷◌, ◌++◌, length, get_or, take, drop, set, sym, refl, ap, ◌∙◌, append_assoc, append-nil, le_of_suc-le-suc, not-suc-le-zero, arith}
+use Rattle.std.proofs.Common.{◌≡◌, ℕ, zero, suc, ◌+◌, ◌*◌, ◌/◌, ◌%◌, ◌<◌, true, false, ◌&&◌, ltb, List, [], ◌∷◌, ◌++◌, length, get_or, take, drop, set, sym, refl, ap, ◌∙◌, append_assoc, append-nil, le_of_suc-le-suc, not-suc-le-zero, arith}
 use lib.Utf8.{encode}
 use Rattle.std.proofs.lemmas.List.{take_more, take_more_set, take-append-drop, drop_all, drop_more, drop-drop, drop-set-lt, at_drop_more}
 use Rattle.std.proofs.lemmas.Bool.{cond_both, and_from, and_left, and_parts, false≢true}

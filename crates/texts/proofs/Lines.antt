@@ -1,7 +1,6 @@
 -- Laws of command lines.
-use Rattle.std.proofs.Common.{◌≡◌, ℕ, ◌-◌, ◌<◌, ◌≤◌, List, [], ◌∷◌, ◌++◌, length, get_or, take, drop, Err, sym, refl, ap, ◌∙◌, arith}
+use Rattle.std.proofs.Common.{◌≡◌, ℕ, ◌-◌, ◌<◌, ◌≤◌, List, [], ◌∷◌, length, get_or, take, drop, Err, sym, ap, ◌∙◌, arith}
 use Rattle.std.proofs.lemmas.List.{take_all}
-use Rattle.octets.specs.Numbers.{Octets}
 use Rattle.texts.specs.Commands.{SheetLine, ReadsLine}
 use Rattle.texts.specs.Hexes.{hex_of, Stands, ReadsHex}
 use Rattle.texts.specs.declared.command.LineFault.TheVariants.{Hex}

@@ -18,7 +18,7 @@ impl fmt::Display for Hex<'_> {
 }
 
 fn write_digits<W: fmt::Write>(f: &mut fmt::Formatter<W>, octets: &[u8]) -> fmt::Result
-    ensures { WritesOnOk write_str_gives f.old result (hex_of octets.now) f.new }
+    ensures { WritesOnOk W.write_str_gives f.old result (hex_of octets.now) f.new }
 {
     for octet in octets {
         f.write_char(digit_of(*octet / 16))?;

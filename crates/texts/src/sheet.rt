@@ -34,7 +34,7 @@ impl fmt::Display for SheetWords<'_> {
 
 // A line for each rule, with its position.
 fn write_rules<W: fmt::Write>(f: &mut fmt::Formatter<W>, rules: &[Rule]) -> fmt::Result
-    ensures { WritesOnOk write_str_gives f.old result (lines_from 0 (map saying rules.now)) f.new }
+    ensures { WritesOnOk W.write_str_gives f.old result (lines_from 0 (map saying rules.now)) f.new }
 {
     for (i, rule) in rules.iter().enumerate() {
         write!(f, " rule {i}: {}\n", RuleWords(rule))?;

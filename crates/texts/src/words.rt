@@ -44,7 +44,7 @@ impl fmt::Display for Grouped {
 // The group i of two octets, behind a colon unless it is the first.
 fn write_group<W: fmt::Write>(f: &mut fmt::Formatter<W>, octets: &[u8; 16], i: usize) -> fmt::Result
     requires { i < 8 }
-    ensures { WritesOnOk write_str_gives f.old result (colon i ++ hex_of (take 2 (drop (2 * i) octets.now))) f.new }
+    ensures { WritesOnOk W.write_str_gives f.old result (colon i ++ hex_of (take 2 (drop (2 * i) octets.now))) f.new }
 {
     let at = 2 * i;
     write!(f, "{}{}", before_group(i), Hex(&octets[at..at + 2]))
@@ -160,7 +160,7 @@ fn write_components<W: fmt::Write>(
     f: &mut fmt::Formatter<W>,
     components: &[Component],
 ) -> fmt::Result
-    ensures { WritesOnOk write_str_gives f.old result (components_words components.now) f.new }
+    ensures { WritesOnOk W.write_str_gives f.old result (components_words components.now) f.new }
 {
     for component in components {
         write!(f, ", {}", ComponentWords(*component))?;

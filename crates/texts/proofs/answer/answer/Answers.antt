@@ -3,8 +3,8 @@ use Rattle.std.proofs.lemmas.Result.{IfOk-weaker}
 use Rattle.texts.proofs.Answering.{fits, sheet_replied, fault_replied}
 use Rattle.texts.proofs.answer.answer.Goals as goal
 
-pub slice-bounds-reply_to_sheet-end : goal.slice-bounds-reply_to_sheet-end
-slice-bounds-reply_to_sheet-end c = let h = fits c.args.line.now c.args.memory.now c.in-Ok.length c.read_line.new.memory c.in-Ok.ensures in search rules
+pub slice_bounds-reply_to_sheet-end : goal.slice_bounds-reply_to_sheet-end
+slice_bounds-reply_to_sheet-end c = let h = fits c.args.line.now c.args.memory.now c.in-Ok.length c.read_line.new.memory c.in-Ok.ensures in search rules
 
 pub returns-in-Ok : goal.returns-in-Ok
 returns-in-Ok c =

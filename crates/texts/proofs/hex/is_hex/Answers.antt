@@ -1,4 +1,4 @@
-use Rattle.std.proofs.Common.{sym, ap, ◌∙◌}
+use Rattle.std.proofs.Common.{sym, ◌∙◌}
 use Rattle.std.proofs.lemmas.List.{at_drop_all}
 use Rattle.texts.specs.Hexes.{all_digits}
 use Rattle.texts.proofs.Hexes.{digits_stop, digits_go}
