@@ -11,7 +11,7 @@ mod tests {
         assert_eq!(rt; Access::from_code(2)?, Access::NonThreeGpp);
         for code in [0, 3, 255] {
             match Access::from_code(code) {
-                Ok(_) => return Err(Fail::new("an access")).note(code),
+                Ok(_) => panic!(rt; "an access: {code}"),
                 Err(refusal) => assert_eq!(rt; refusal, Refusal::Unknown, "{}", code),
             }
         }
