@@ -29,6 +29,7 @@ allAlone all_alone
 allDigits all_digits
 alone-more alone_more
 alone-too alone_too
+ap-lt ap_lt
 apart-map apart_map
 back-octets back_octets
 be-number be_number
@@ -186,6 +187,7 @@ ruleOctets rule_octets
 ruleWords rule_words
 rules-joined rules_joined
 rules-read rules_read
+rules-refused rules_refused
 rules-sound rules_sound
 rules-written rules_written
 rulesFrom rules_from

@@ -277,7 +277,7 @@ module _ (met : ℕ → Bool) (ys : List ℕ) (r : Said) (n : ℕ) where
           let shown = frame_inv ys f p.framed in
           let row = row_read (components_part f ys) r.components (octets_take f.components (drop 5 ys) (octets_drop 5 ys o)) p.components in
           let described = descriptor_read (descriptor_part f ys) r.descriptor p.descriptor in
-          let byte : r.precedence < 256 = ap-lt (p.precedence ∙ shown.precedence) (o 2) in
+          let byte : r.precedence < 256 = ap_lt (p.precedence ∙ shown.precedence) (o 2) in
           record {
             octets = parts_octets ys f r o shown p.precedence row.octets described.0 ∙ ap (λ k. take k ys) (sym p.size);
             inside = omega (arith, shown.inside, p.size);
@@ -285,5 +285,5 @@ module _ (met : ℕ → Bool) (ys : List ℕ) (r : Said) (n : ℕ) where
             fresh = ap met p.precedence ∙ p.fresh;
           }
         where
-          ap-lt : {a b : ℕ} → a ≡ b → b < 256 → a < 256
-          ap-lt {a} {b} q h = omega arith
+          ap_lt : {a b : ℕ} → a ≡ b → b < 256 → a < 256
+          ap_lt {a} {b} q h = omega arith

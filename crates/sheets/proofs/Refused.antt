@@ -34,8 +34,8 @@ module _ (ys : List ℕ) (three : 3 ≤ length ys) (limit : length ys ≤ 16384)
       distanced : ltb (length ys - 3) (distance_in ys) ≡ false
       distanced = le-ltb (length ys - 3) (distance_in ys) inside
 
-      pub rules-refused : (e : Refusal) → rules_from (count_in ys) [] (take (distance_in ys) (drop (heading_in ys) ys)) ≡ Err e → sheet_from ys ≡ Err e
-      rules-refused e r = refuse_not _ _ sized ∙ refuse_not _ _ counted ∙ refuse_not _ _ distanced ∙ after_err _ r
+      pub rules_refused : (e : Refusal) → rules_from (count_in ys) [] (take (distance_in ys) (drop (heading_in ys) ys)) ≡ Err e → sheet_from ys ≡ Err e
+      rules_refused e r = refuse_not _ _ sized ∙ refuse_not _ _ counted ∙ refuse_not _ _ distanced ∙ after_err _ r
 
       pub accepted : (rs : List Said) → rules_from (count_in ys) [] (take (distance_in ys) (drop (heading_in ys) ys)) ≡ Ok rs → sheet_from ys ≡ Ok (heading_in ys, rs)
       accepted rs r = refuse_not _ _ sized ∙ refuse_not _ _ counted ∙ refuse_not _ _ distanced ∙ after_ok _ r

@@ -1,7 +1,7 @@
 // A table of rules: the first `count` of the array.
 ghost use Rattle.std.specs.Prelude.{◌≡◌, ◌+◌, ◌<◌, ◌≤◌, [], ◌∷◌, ◌++◌, map, length};
 ghost use Rattle.rules.specs.Rules.{saying};
-ghost use Rattle.sheets.specs.Tables.{said};
+ghost use Rattle.sheets.specs.Tables.{said, empty_table};
 
 use rules::{Components, Descriptor, Functionality, Mode, Rule};
 
@@ -16,7 +16,8 @@ pub(crate) struct RuleTable {
 
 impl RuleTable {
     pub(crate) fn empty() -> RuleTable
-        ensures { result.count ≡ 0 }
+        ensures value { result ≡ empty_table }
+        ensures count { result.count ≡ 0 }
     {
         let none = Rule {
             precedence: 0,

@@ -1,10 +1,12 @@
 #![tactic(auto)]
-// The words that every layer shares: the two accesses, a pair that holds one
-// thing for each of them, and the numbered refusals.
+// What every layer shares: the two accesses, pairs of values for them, the
+// numbered refusals, and the front of a slice.
 pub mod access;
+pub mod fronts;
 pub mod pair;
 pub mod refusal;
 
 pub use access::Access;
+pub use fronts::front;
 pub use pair::Pair;
 pub use refusal::Refusal;

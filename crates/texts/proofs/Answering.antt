@@ -37,7 +37,7 @@ sheet_reply xs m m' n k rs rs' text w long same says is =
     subst (λ r. MatchResult r (λ s. text ≡ sheet_words (take s.0 xs) s.1 xs) (λ e. text ≡ refusal_words e)) done.0 (is ∙ (λ i. sheet_words (take (same i) xs) (says i) (all i)))
 
 -- only one sheet is handed in by a line
-only : (line xs ys : List ℕ) → SheetLine line xs → SheetLine line ys → xs ≡ ys
+pub only : (line xs ys : List ℕ) → SheetLine line xs → SheetLine line ys → xs ≡ ys
 only line xs ys p q = hex_same xs ys p.octets q.octets (let e : codes "S " ++ hex_of xs ≡ codes "S " ++ hex_of ys = sym p.written ∙ q.written in ap (drop 2) e)
 
 pub fits : (line m : List ℕ) (n : ℕ) (m' : List ℕ) → ReadsLine line m (Ok n) m' → n ≤ length m'

@@ -2,7 +2,7 @@
 #[cfg(test)]
 mod tests {
     use std::test::Fail;
-    use texts::{Hex, HexFault, read_hex, reply};
+    use texts::{Hex, HexFault, carry_out, read_hex, reply};
 
     // A text, and the octets that it stands for.
     const PRINTED: [(&str, &[u8]); 3] = [
@@ -93,6 +93,8 @@ mod tests {
         let heap = rt.alloc();
         for (line, wanted) in ANSWERS {
             assert_eq!(rt; reply(heap, line.as_bytes())?.as_str(), wanted);
+            let answer = carry_out(line.as_bytes());
+            assert_eq!(rt; format!(in heap; "{answer}")?.as_str(), wanted);
         }
         Ok(())
     }
@@ -118,6 +120,8 @@ mod tests {
                 "{}",
                 size
             );
+            let answer = carry_out(command.as_bytes());
+            assert_eq!(rt; format!(in heap; "{answer}")?.as_str(), wanted, "{}", size);
             command.push_str("0")?;
             assert_eq!(rt;
                 reply(heap, command.as_bytes())?.as_str(),
@@ -125,6 +129,8 @@ mod tests {
                 "{}",
                 size
             );
+            let answer = carry_out(command.as_bytes());
+            assert_eq!(rt; format!(in heap; "{answer}")?.as_str(), NO_HEX, "{}", size);
         }
         Ok(())
     }

@@ -33,7 +33,7 @@ fn read_rules(octets: &[u8], count: usize) -> Result<RuleTable, Refusal>
 }
 
 // The most octets that a sheet has.
-pub(crate) const LIMIT: usize = 16384;
+pub const LIMIT: usize = 16384;
 
 // A sheet that was read: how many octets its heading has, and its rules.
 #[derive(Clone, Copy)]

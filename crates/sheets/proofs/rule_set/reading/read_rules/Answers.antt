@@ -14,7 +14,7 @@ read : (c : After-read_rule) → rule_from (has c.loop-i.met) (drop c.loop-i.at 
 read c = sym (c.read_rule.ensures.value ∙ ap (rule_from (has c.loop-i.met)) (take_rest c.args.octets.now c.loop-i.at))
 
 pub loop-i-init : goal.loop-i-init
-loop-i-init c = found_none c.empty-table.result c.none-met.result c.args.count c.args.octets.now c.empty-table.ensures c.none-met.ensures
+loop-i-init c = found_none c.empty-table.result c.none-met.result c.args.count c.args.octets.now c.empty-table.ensures.count c.none-met.ensures
 
 pub returns-in_err-rule : goal.returns-in_err-rule
 returns-in_err-rule c =

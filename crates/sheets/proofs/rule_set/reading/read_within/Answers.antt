@@ -5,7 +5,7 @@ use Rattle.octets.proofs.Numbers.{octets_take, octets_drop}
 use Rattle.terms.specs.Replies.{seen_as}
 use Rattle.sheets.specs.Reading.{rules_from, count_in, distance_in, heading_in}
 use Rattle.sheets.specs.Tables.{said}
-use Rattle.sheets.proofs.Refused.{count_refused, distance_refused, rules-refused, accepted}
+use Rattle.sheets.proofs.Refused.{count_refused, distance_refused, rules_refused, accepted}
 use Rattle.sheets.proofs.Trips.{lawful, rules_sound}
 use Rattle.sheets.proofs.rule_set.reading.read_within.Goals as goal
 use Rattle.sheets.proofs.rule_set.reading.read_within.Goals.{After-read_rules}
@@ -45,7 +45,7 @@ returns-in_err-table c =
     let b = (goal.at.returns-in_err-table c).After-read_rules in
     let xs = c.args.octets.now in
     let p = err_from_is_err_and c.from_residual.result c.from_residual.ensures.1 in
-    let e = sym (rules-refused xs c.requires.least c.requires.most (some b) (few b) (inside b) _ (read b ∙ ap (seen_as said) c.in_err-table.was)) in
+    let e = sym (rules_refused xs c.requires.least c.requires.most (some b) (few b) (inside b) _ (read b ∙ ap (seen_as said) c.in_err-table.was)) in
     rw (p.1, p.2) (record { value = e; law = lawful xs _ (λ i. (c.type_inv.octets i).fits) e })
 
 pub invariant_of-result : goal.invariant_of-result

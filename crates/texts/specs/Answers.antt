@@ -1,0 +1,58 @@
+-- What is answered to a command, as a value.
+use Rattle.std.specs.Prelude.{◌≡◌, ℕ, List, ◌++◌, take, Ok, Err, codes, Result, ◌≢◌}
+use Rattle.terms.specs.declared.refusal.Refusal.{Refusal}
+use Rattle.terms.specs.declared.refusal.Refusal.TheVariants.{SheetSize}
+use Rattle.rules.specs.Rules.{Said}
+use Rattle.sheets.specs.Reading.{sheet_from}
+use Rattle.sheets.specs.Sets.{rules_of}
+use Rattle.texts.specs.Commands.{SheetLine}
+use Rattle.texts.specs.Replies.{refusal_words, no_hex, no_command}
+use Rattle.texts.specs.Sheets.{sheet_words}
+use Rattle.texts.specs.declared.carrying.Accepted.{Accepted}
+use Rattle.texts.specs.declared.carrying.Answer.{Answer}
+use Rattle.texts.specs.declared.carrying.Answer.TheVariants as answer
+use Rattle.texts.specs.declared.command.LineFault.{LineFault}
+use Rattle.texts.specs.declared.command.LineFault.TheVariants.{Unknown, Hex}
+use Rattle.texts.specs.declared.hex.HexFault.TheVariants.{NotHex, NoRoom}
+
+-- what an answer tells: the octets of a sheet as they were written again, the length of its heading
+-- and its rules; a refusal; that the text hands in no octets; or that it does not begin as a command does
+pub data Told : Type 0 where
+  accepted : List ℕ → ℕ → List Said → Told
+  refused : Refusal → Told
+  bad_hex : Told
+  bad_command : Told
+
+-- what was written: the first `size` of the array
+abbrev pub written_in : Accepted → List ℕ
+written_in a = take a.size a.written
+
+abbrev pub telling : Answer → Told
+telling (answer.Accepted a) = accepted (written_in a) a.found.heading (rules_of a.found.rules)
+telling (answer.Refused e) = refused e
+telling answer.NoHex = bad_hex
+telling answer.NoCommand = bad_command
+
+-- to octets handed in as a sheet: the same octets with what they are read as, or the refusal
+abbrev pub sheet_told : List ℕ → Result (ℕ × List Said) Refusal → Told
+sheet_told xs (Ok s) = accepted xs s.0 s.1
+sheet_told xs (Err e) = refused e
+
+-- to a text that is not read into memory for as many octets as a sheet has
+abbrev pub fault_told : LineFault → Told
+fault_told Unknown = bad_command
+fault_told (Hex NotHex) = bad_hex
+fault_told (Hex NoRoom) = refused SheetSize
+
+-- to a text that hands in a sheet, to another text that begins like one, and to any other
+pub record Answers (text : List ℕ) (told : Told) : Type 0 where
+  pub to_sheet : (xs : List ℕ) → SheetLine text xs → told ≡ sheet_told xs (sheet_from xs)
+  pub to_other : (rest : List ℕ) → text ≡ codes "S " ++ rest → ((xs : List ℕ) → SheetLine text xs → ⊥) → told ≡ bad_hex
+  pub to_unknown : ((rest : List ℕ) → text ≢ codes "S " ++ rest) → told ≡ bad_command
+
+-- an answer in words
+abbrev pub told_words : Told → List ℕ
+told_words (accepted xs heading rs) = sheet_words (take heading xs) rs xs
+told_words (refused e) = refusal_words e
+told_words bad_hex = no_hex
+told_words bad_command = no_command
