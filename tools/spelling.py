@@ -17,7 +17,7 @@ Components-read ComponentsRead
 Frame-read FrameRead
 Parts-read PartsRead
 Row-read RowRead
-Rule-read RuleRead
+Rule-read RuleIsRead
 Rules-read RulesRead
 Sound-parts SoundParts
 active-read active_read

@@ -161,7 +161,7 @@ module _ (r : Said) (rest : List ℕ) (sound : sound_rule r ≡ true) where
 
 -- ---- what is read is what was written
 
-pub record RuleRead (met : ℕ → Bool) (xs : List ℕ) (r : Said) (n : ℕ) : Type 0 where
+pub record RuleIsRead (met : ℕ → Bool) (xs : List ℕ) (r : Said) (n : ℕ) : Type 0 where
   pub octets : rule_octets r ≡ take n xs
   pub inside : n ≤ length xs
   pub sound : sound_rule r ≡ true
@@ -269,10 +269,10 @@ module _ (met : ℕ → Bool) (ys : List ℕ) (r : Said) (n : ℕ) where
       let (es, found, e₂) = after_inv (components_in (components_part f ys)) _ (r, n) e₁ in
       (f, descriptor_inv f es shown found e₂)
 
-  pub rule_read : Octets ys → rule_from met ys ≡ Ok (r, n) → RuleRead met ys r n
+  pub rule_read : Octets ys → rule_from met ys ≡ Ok (r, n) → RuleIsRead met ys r n
   rule_read o e = of_parts (rule_inv e).0 (rule_inv e).1
     where
-      of_parts : (f : Framed) → PartsRead met ys r n f → RuleRead met ys r n
+      of_parts : (f : Framed) → PartsRead met ys r n f → RuleIsRead met ys r n
       of_parts f p =
           let shown = frame_inv ys f p.framed in
           let row = row_read (components_part f ys) r.components (octets_take f.components (drop 5 ys) (octets_drop 5 ys o)) p.components in

@@ -38,6 +38,7 @@ mod tests {
             assert_eq!(rt; share_of(k), share);
             assert_eq!(rt; Mode::LoadBalancing { k }.share(), Some(share));
         }
+        assert_eq!(rt; Mode::SmallestDelay.share(), None);
     }
 
     const REFUSALS: [(Refusal, u8, &str); 23] = [
