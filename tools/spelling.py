@@ -1,7 +1,7 @@
 #!/usr/bin/env python3
 """Spells this repository's own definitions and lemmas as Rattle spells its own.
 
-usage: python3 tools/spelling.py        at the top of the repository, once
+usage: python3 tools/spelling.py        at the top of the repository; a second run changes nothing
 
 Functions and lemmas are in snake case, types in camel case; a dash stays where it joins
 the names of two functions, as in length-be. Functions of src/, strings, comments of src/
