@@ -1,5 +1,6 @@
-#![tactic(auto)]
 // How a rule lies in octets: reading one and writing one.
+#![tactic(auto)]
+
 mod components;
 mod descriptors;
 pub mod memory;

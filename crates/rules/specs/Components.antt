@@ -1,4 +1,4 @@
--- Components: the type of each, and the column of its value.
+-- Components: the type of each, and which values it may have.
 use Rattle.std.specs.Prelude.{◌≡◌, ℕ, ◌^◌, Bool, true, false, ◌&&◌, ◌==◌, List, [], ◌∷◌, ◌++◌, length, take, replicate, Ok, Err, MatchBool, Result, nat_le, nat_lt}
 use Rattle.terms.specs.declared.refusal.Refusal.{Refusal}
 use Rattle.terms.specs.declared.refusal.Refusal.TheVariants as refusal
@@ -47,7 +47,7 @@ in_column (SecurityIndex index) = holds 4 index
 in_column (ServiceType value mask) = holds 1 value && holds 1 mask
 in_column (FlowLabel label) = nat_lt label (2 ^ 20)
 
--- the type and the value are the same
+-- whether two components are the same, in type and value
 abbrev pub same_component : Component → Component → Bool
 same_component MatchAll MatchAll = true
 same_component (Ipv4 a m) (Ipv4 b n) = a == b && m == n

@@ -22,7 +22,7 @@ mode_in_column SmallestDelay = true
 mode_in_column (LoadBalancing k) = nat_le 1 k && nat_le k 11
 mode_in_column (Priority first) = true
 
--- whether two descriptors are the same
+-- whether two descriptors are the same: their functionalities are, and their modes with what these carry
 abbrev pub same_functionality : Functionality → Functionality → Bool
 same_functionality OnlyOne OnlyOne = true
 same_functionality Mptcp Mptcp = true

@@ -1,6 +1,7 @@
-#![tactic(auto)]
 // Steering rules: the components that a packet is matched with, the access
 // descriptor, and a rule of both with its precedence.
+#![tactic(auto)]
+
 pub mod component;
 pub mod descriptor;
 pub mod rule;

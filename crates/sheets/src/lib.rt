@@ -1,5 +1,6 @@
-#![tactic(auto)]
 // Sheets of steering rules: read, kept as sound sets, and written.
+#![tactic(auto)]
+
 pub mod rule_set;
 mod table;
 

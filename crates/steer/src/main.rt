@@ -1,5 +1,6 @@
-#![tactic(auto)]
 // Reads lines from standard input and answers each: `S` and a sheet in hexadecimal.
+#![tactic(auto)]
+
 use std::io::{BufRead, BufReader};
 use texts::reply;
 

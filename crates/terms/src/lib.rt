@@ -1,6 +1,7 @@
-#![tactic(auto)]
 // What every layer shares: the two accesses, pairs of values for them, the
 // numbered refusals, and the front of a slice.
+#![tactic(auto)]
+
 pub mod access;
 pub mod fronts;
 pub mod pair;

@@ -1,8 +1,6 @@
 -- Laws of the answers to commands, as values.
-use Rattle.std.proofs.Common.{◌≡◌, ℕ, Bool, true, false, leb, List, ◌++◌, length, take, drop, Ok, Err, MatchBool, Result, sym, refl, ap, ◌∙◌, inr, arith, MatchResult}
+use Rattle.std.proofs.Common.{◌≡◌, ℕ, List, length, take, drop, Ok, Err, sym, refl, ap, ◌∙◌, inr, arith}
 use Rattle.std.proofs.lemmas.List.{take_at}
-use Rattle.terms.specs.declared.refusal.Refusal.{Refusal}
-use Rattle.terms.specs.declared.refusal.Refusal.TheVariants.{Memory}
 use Rattle.rules.specs.Rules.{Said}
 use Rattle.sheets.specs.Reading.{sheet_from}
 use Rattle.sheets.specs.Writing.{Rewrites}
@@ -13,24 +11,14 @@ use Rattle.texts.specs.Hexes.{hex_of}
 use Rattle.texts.specs.declared.command.LineFault.{LineFault}
 use Rattle.texts.specs.declared.command.LineFault.TheVariants.{Unknown, Hex}
 use Rattle.texts.specs.declared.hex.HexFault.TheVariants.{NotHex, NoRoom}
-use Rattle.texts.proofs.Answering.{only}
+use Rattle.texts.proofs.Answering.{only, rewrites_ok}
 
 -- a sheet that was written again, where there is room: its octets, and what they are read as
 pub sheet_is_told : (xs m : List ℕ) (s : ℕ × List Said) (m' : List ℕ) → Rewrites xs m (Ok s) m' → accepted (take (length xs) m') s.0 s.1 ≡ sheet_told xs (sheet_from xs)
-sheet_is_told xs m s m' w = go (sheet_from xs) (leb (length xs) (length m)) w
-  where
-    gave : Result (ℕ × List Said) Refusal
-    gave = Ok s
-
-    front : m' ≡ xs ++ drop (length xs) m → take (length xs) m' ≡ xs
-    front e = ap (take (length xs)) e ∙ take_at xs (drop (length xs) m) (length xs) refl
-
-    go : (q : Result (ℕ × List Said) Refusal) (b : Bool)
-        → MatchResult q (λ x. MatchBool b ((gave ≡ Ok x) × (m' ≡ xs ++ drop (length xs) m)) ((gave ≡ Err Memory) × (m' ≡ m))) (λ e. (gave ≡ Err e) × (m' ≡ m))
-        → accepted (take (length xs) m') s.0 s.1 ≡ sheet_told xs q
-    go (Ok x) true h = let same : s ≡ x = (let k = h.0 in cc) in λ i. accepted (front h.1 i) (same i).0 (same i).1
-    go (Ok x) false h = absurd (let z : ◌≡◌ {A = ℕ} 0 1 = (let k = h.0 in cc) in omega arith)
-    go (Err e) b h = absurd (let z : ◌≡◌ {A = ℕ} 0 1 = (let k = h.0 in cc) in omega arith)
+sheet_is_told xs m s m' w =
+    let (read, memory) = rewrites_ok xs m s m' w in
+    let front : take (length xs) m' ≡ xs = ap (take (length xs)) memory ∙ take_at xs (drop (length xs) m) (length xs) refl in
+    ap (λ l. accepted l s.0 s.1) front ∙ ap (sheet_told xs) read
 
 -- the answer to these octets is that to the text that hands them in
 handing : (text xs : List ℕ) (told : Told) → SheetLine text xs → told ≡ sheet_told xs (sheet_from xs) → Answers text told

@@ -1,5 +1,6 @@
+// Text: octets in hexadecimal, rules in words, and command lines with their answers.
 #![tactic(auto)]
-// Text: octets in hexadecimal, rules in words, and command lines.
+
 pub mod answer;
 pub mod carrying;
 pub mod command;

@@ -1,5 +1,6 @@
-#![tactic(auto)]
 // Worked examples that are run: sheets and their edges, memory, text and the shared words.
+#![tactic(auto)]
+
 mod making;
 mod reading;
 mod text;
