@@ -1,19 +1,18 @@
 -- What is read, where nothing is refused.
-use Rattle.std.proofs.Common.{◌≡◌, ℕ, ◌+◌, ◌-◌, ◌≤◌, Bool, true, false, not, ltb, List, length, take, drop, Some, Ok, Err, sym, refl, ap, ◌∙◌, arith, length-append}
+use Rattle.std.proofs.Common.{◌≡◌, ℕ, ◌+◌, ◌-◌, ◌≤◌, Bool, true, false, not, ltb, List, length, take, drop, Some, Ok, Err, sym, refl, ap, ◌∙◌}
 use Rattle.std.proofs.lemmas.Bool.{le-ltb, ltb-false, not-false, not_from_true}
 use Rattle.terms.specs.declared.refusal.Refusal.TheVariants as refusal
 use Rattle.terms.specs.Replies.{refuse_if, found_or}
 use Rattle.terms.specs.declared.refusal.Refusal.{Refusal}
-use Rattle.terms.proofs.Replies.{after_ok, after_err, after_inv, refuse_not, refuse_so, refuse_inv, found_some, found_inv}
-use Rattle.rules.specs.Components.{type_of, kind_in, in_column}
-use Rattle.rules.specs.Rules.{Said}
+use Rattle.terms.proofs.Replies.{after_ok, after_err, after_inv, refuse_not, refuse_inv, found_some, found_inv}
+use Rattle.rules.specs.Components.{type_of, kind_of, kind_in, in_column}
 use Rattle.rules.specs.declared.component.Component.{Component}
 use Rattle.rules.specs.declared.component.Component.TheVariants.{MatchAll, Ipv4, Ipv6, Protocol, Port, PortRange, SecurityIndex, ServiceType, FlowLabel}
 use Rattle.rules.specs.declared.component.Kind.{Kind}
 use Rattle.rules.specs.declared.component.Kind.TheVariants as kind
 use Rattle.rules.specs.declared.descriptor.Descriptor.{Descriptor}
-use Rattle.layouts.specs.Layout.{value_octets, components_octets, descriptor_octets, rule_octets}
-use Rattle.layouts.specs.Reading.{Framed, kind_of, size_of, value_from, clashes, component_from, components_in, descriptor_from, frame_from, rule_from}
+use Rattle.layouts.specs.Layout.{value_octets}
+use Rattle.layouts.specs.Reading.{Framed, size_of, value_from, clashes, component_from, components_in, descriptor_from, frame_from, rule_from}
 
 pub component_ok : (ts : List ℕ) (t : ℕ) (xs : List ℕ) (k : Kind) (c : Component)
     → kind_of t ≡ Some k → size_of k ≤ length xs → clashes (type_of k) ts ≡ false → c ≡ value_from k (take (size_of k) xs) → in_column c ≡ true
@@ -44,9 +43,6 @@ length_value (PortRange l h) = refl
 length_value (SecurityIndex i) = refl
 length_value (ServiceType v m) = refl
 length_value (FlowLabel l) = refl
-
-pub length_rule : (r : Said) → length (rule_octets r) ≡ 5 + (length (components_octets r.components) + length (descriptor_octets r.descriptor))
-length_rule r = omega (arith, length-append (components_octets r.components) (descriptor_octets r.descriptor))
 
 -- what a component that was read shows
 pub record ComponentRead (ts : List ℕ) (t : ℕ) (xs : List ℕ) (c : Component) : Type 0 where
@@ -88,9 +84,6 @@ module _ (met : ℕ → Bool) (xs : List ℕ) (f : Framed) (framed : frame_from 
   module _ (cs : List Component) (d : Descriptor) (components : components_in (components_part f xs) ≡ Ok cs) (descriptor : descriptor_from (descriptor_part f xs) ≡ Some d) where
     to_last : rule_from met xs ≡ refuse_if (met f.precedence) refusal.Precedence (Ok (record { precedence = f.precedence; components = cs; descriptor = d }, f.size))
     to_last = after_ok _ framed ∙ after_ok _ components ∙ after_ok _ (found_some refusal.Descriptor descriptor)
-
-    pub rule_met : met f.precedence ≡ true → rule_from met xs ≡ Err refusal.Precedence
-    rule_met m = to_last ∙ refuse_so _ _ m
 
     pub rule_ok : met f.precedence ≡ false → rule_from met xs ≡ Ok (record { precedence = f.precedence; components = cs; descriptor = d }, f.size)
     rule_ok m = to_last ∙ refuse_not _ _ m

@@ -1,23 +1,18 @@
 -- Laws of components that clash.
-use Rattle.std.proofs.Common.{◌≡◌, ℕ, ◌+◌, ◌<◌, true, false, ◌||◌, eqb, List, [], ◌∷◌, ◌++◌, length, get_or, drop, sym, refl, ap, ◌∙◌}
-use Rattle.std.proofs.lemmas.List.{at_drop_more, map_push}
+use Rattle.std.proofs.Common.{◌≡◌, ℕ, true, false, ◌||◌, eqb, List, [], ◌∷◌, ◌++◌, refl, ap}
+use Rattle.std.specs.List.{list_any}
+use Rattle.std.proofs.lemmas.List.{map_push}
 use Rattle.std.proofs.lemmas.Bool.{not_from_false, or_from, or_left, or_parts, or_right}
 use Rattle.rules.specs.Components.{type_of, kind_in}
 use Rattle.rules.specs.Rules.{elem, distinct, types_in, all_alone}
 use Rattle.rules.proofs.Sound.{eqb_flip, elem_push, distinct_push}
 use Rattle.rules.specs.declared.component.Component.{Component}
-use Rattle.rules.specs.declared.component.Kind.{Kind}
 use Rattle.layouts.specs.Reading.{clash, clashes}
 
-module _ (t : ℕ) (cs : List Component) (i : ℕ) (d : Component) (k : Kind) (within : i < length cs) (is : k ≡ kind_in (get_or cs i d)) where
-  clashes_at : clashes t (types_in (drop i cs)) ≡ (clash t (type_of k) || clashes t (types_in (drop (i + 1) cs)))
-  clashes_at = at_drop_more (λ l. clashes t (types_in l)) cs i d within ∙ ap (λ x. clash t (type_of x) || clashes t (types_in (drop (i + 1) cs))) (sym is)
-
-  pub clashes_here : true ≡ clash t (type_of k) → clashes t (types_in (drop i cs)) ≡ true
-  clashes_here e = clashes_at ∙ or_left _ _ (sym e)
-
-  pub clashes_on : false ≡ clash t (type_of k) → clashes t (types_in (drop (i + 1) cs)) ≡ clashes t (types_in (drop i cs))
-  clashes_on e = sym (clashes_at ∙ ap (λ b. b || clashes t (types_in (drop (i + 1) cs))) (sym e))
+-- whether any of them clashes
+pub clashes_any : (t : ℕ) (cs : List Component) → list_any (λ c. clash t (type_of (kind_in c))) cs ≡ clashes t (types_in cs)
+clashes_any t [] = refl
+clashes_any t (c ∷ cs) = ap (λ b. clash t (type_of (kind_in c)) || b) (clashes_any t cs)
 
 -- ---- one more component that clashes with none
 

@@ -5,13 +5,13 @@ use Rattle.std.proofs.lemmas.Bool.{and_from, and_parts, eqb-true, not-true, or_c
 use Rattle.octets.specs.Numbers.{Octets}
 use Rattle.octets.proofs.Numbers.{octets_take}
 use Rattle.terms.proofs.Replies.{after_ok, after_inv}
-use Rattle.rules.specs.Components.{type_of, kind_in, in_column}
+use Rattle.rules.specs.Components.{type_of, first, kinds, kind_of, kind_in, in_column}
 use Rattle.rules.specs.Rules.{elem, every, distinct, types_in, all_alone}
 use Rattle.rules.specs.declared.component.Component.{Component}
 use Rattle.rules.specs.declared.component.Kind.{Kind}
 use Rattle.rules.proofs.Sound.{eqb_flip}
 use Rattle.layouts.specs.Layout.{value_octets, component_octets, components_octets}
-use Rattle.layouts.specs.Reading.{kinds, kind_of, first, size_of, value_from, clashes, component_from, components_from}
+use Rattle.layouts.specs.Reading.{size_of, value_from, clashes, component_from, components_from}
 use Rattle.layouts.proofs.Accepts.{ComponentRead, component_ok, component_inv, length_value}
 use Rattle.layouts.proofs.Clashes.{distinct_more, alone_more, types_push}
 use Rattle.layouts.proofs.Rows.{skip}

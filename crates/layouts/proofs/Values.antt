@@ -5,13 +5,13 @@ use Rattle.std.proofs.lemmas.List.{drop_at, take_at, take_all, length-take-le, l
 use Rattle.std.proofs.lemmas.Bool.{and_parts, ltb-true}
 use Rattle.octets.specs.Numbers.{Octets, be}
 use Rattle.octets.proofs.Numbers.{number_be, be_number, length-be, octets_take, octets_drop}
-use Rattle.rules.specs.Components.{type_of, kind_in, holds, in_column}
+use Rattle.rules.specs.Components.{type_of, kind_of, kind_in, holds, in_column}
 use Rattle.rules.specs.declared.component.Kind.{Kind}
 use Rattle.rules.specs.declared.component.Kind.TheVariants as kind
 use Rattle.rules.specs.declared.component.Component.{Component}
 use Rattle.rules.specs.declared.component.Component.TheVariants.{MatchAll, Ipv4, Ipv6, Protocol, Port, PortRange, SecurityIndex, ServiceType, FlowLabel}
 use Rattle.layouts.specs.Layout.{value_octets}
-use Rattle.layouts.specs.Reading.{field, kind_of, size_of, value_from}
+use Rattle.layouts.specs.Reading.{field, size_of, value_from}
 
 pub kind_known : (k : Kind) → kind_of (type_of k) ≡ Some k
 kind_known kind.MatchAll = refl

@@ -1,11 +1,7 @@
 -- Laws of octets written into memory.
 use Rattle.std.proofs.Common.{◌≡◌, ℕ, ◌+◌, ◌≤◌, List, ◌++◌, length, take, drop, sym, ap, ◌∙◌, append_assoc, arith}
-use borrow.Rule.Slice.PartMut.{put_mid}
 use Rattle.std.proofs.lemmas.List.{drop_at, drop-drop, length-append, length-drop, length-take-le, take_at}
 use Rattle.layouts.specs.Memory.{written}
-
-pub put_written : (i k : ℕ) (m ys xs : List ℕ) → ys ≡ xs → k ≡ length xs → put_mid i k m ys ≡ written i xs m
-put_written i k m ys xs e l = rw (e, l) (ap (λ d. take i m ++ (xs ++ d)) (drop-drop (length xs) i m))
 
 -- one after another
 module _ (i : ℕ) (xs ys m : List ℕ) (room : i + length xs ≤ length m) where

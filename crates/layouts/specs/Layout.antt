@@ -9,8 +9,7 @@ use Rattle.rules.specs.Rules.{Said}
 use Rattle.rules.specs.declared.component.Component.{Component}
 use Rattle.rules.specs.declared.component.Component.TheVariants.{MatchAll, Ipv4, Ipv6, Protocol, Port, PortRange, SecurityIndex, ServiceType, FlowLabel}
 use Rattle.rules.specs.declared.descriptor.Descriptor.{Descriptor}
-use Rattle.rules.specs.declared.descriptor.Functionality.{Functionality}
-use Rattle.rules.specs.declared.descriptor.Functionality.TheVariants.{OnlyOne, Mptcp, AtsssLl}
+use Rattle.rules.specs.Descriptors.{functionality_code}
 use Rattle.rules.specs.declared.descriptor.Mode.{Mode}
 use Rattle.rules.specs.declared.descriptor.Mode.TheVariants.{ActiveStandby, SmallestDelay, LoadBalancing, Priority}
 
@@ -32,11 +31,6 @@ component_octets c = type_of (kind_in c) ∷ value_octets c
 
 abbrev pub components_octets : List Component → List ℕ
 components_octets cs = flat_map component_octets cs
-
-abbrev pub functionality_code : Functionality → ℕ
-functionality_code OnlyOne = 1
-functionality_code Mptcp = 2
-functionality_code AtsssLl = 3
 
 abbrev pub mode_code : Mode → ℕ
 mode_code (ActiveStandby active standby) = 1
@@ -63,3 +57,7 @@ rule_body r = r.precedence ∷ (be 2 (length (components_octets r.components)) +
 
 abbrev pub rule_octets : Said → List ℕ
 rule_octets r = be 2 (length (rule_body r)) ++ rule_body r
+
+-- one rule behind the other
+abbrev pub rules_octets : List Said → List ℕ
+rules_octets rs = flat_map rule_octets rs

@@ -1,11 +1,12 @@
 -- What octets are read as, and which refusal comes first.
-use Rattle.std.specs.Prelude.{ℕ, zero, suc, ◌+◌, ◌-◌, Bool, true, false, cond, not, ◌&&◌, ◌||◌, List, [], ◌∷◌, ◌++◌, length, take, drop, Some, None, Ok, Option, Result, ◌==◌, nat_eq, nat_le, nat_lt, slice_index}
+use Rattle.std.specs.Prelude.{ℕ, zero, suc, ◌+◌, ◌-◌, Bool, true, false, cond, not, ◌&&◌, ◌||◌, List, [], ◌∷◌, ◌++◌, length, take, drop, Some, None, Ok, Option, Result, ◌==◌, nat_le, nat_lt, slice_index}
 use Rattle.std.specs.Int.Digits.{number_from_digits}
 use Rattle.terms.specs.Replies.{refuse_if, after, found_or}
 use Rattle.terms.specs.declared.access.Access.TheVariants.{ThreeGpp, NonThreeGpp}
 use Rattle.terms.specs.declared.refusal.Refusal.{Refusal}
 use Rattle.terms.specs.declared.refusal.Refusal.TheVariants as refusal
-use Rattle.rules.specs.Components.{type_of, kind_in, in_column}
+use Rattle.rules.specs.Components.{type_of, kind_of, kind_in, in_column}
+use Rattle.rules.specs.Descriptors.{functionality_from}
 use Rattle.rules.specs.Rules.{Said, types_in}
 use Rattle.rules.specs.declared.component.Kind.{Kind}
 use Rattle.rules.specs.declared.component.Kind.TheVariants as kind
@@ -13,25 +14,12 @@ use Rattle.rules.specs.declared.component.Component.{Component}
 use Rattle.rules.specs.declared.component.Component.TheVariants.{MatchAll, Ipv4, Ipv6, Protocol, Port, PortRange, SecurityIndex, ServiceType, FlowLabel}
 use Rattle.rules.specs.declared.descriptor.Descriptor.{Descriptor}
 use Rattle.rules.specs.declared.descriptor.Functionality.{Functionality}
-use Rattle.rules.specs.declared.descriptor.Functionality.TheVariants.{OnlyOne, Mptcp, AtsssLl}
 use Rattle.rules.specs.declared.descriptor.Mode.{Mode}
 use Rattle.rules.specs.declared.descriptor.Mode.TheVariants.{ActiveStandby, SmallestDelay, LoadBalancing, Priority}
 
 -- the number that w octets from place i on write
 abbrev pub field : ℕ → ℕ → List ℕ → ℕ
 field i w xs = number_from_digits 256 (take w (drop i xs))
-
--- the first that passes a test
-abbrev pub first : {A : Type 0} → (A → Bool) → List A → Option A
-first f [] = None
-first f (x ∷ xs) = cond (f x) (Some x) (first f xs)
-
-abbrev pub kinds : List Kind
-kinds = kind.MatchAll ∷ (kind.Ipv4 ∷ (kind.Ipv6 ∷ (kind.Protocol ∷ (kind.Port ∷ (kind.PortRange ∷ (kind.SecurityIndex ∷ (kind.ServiceType ∷ (kind.FlowLabel ∷ []))))))))
-
--- the kind that has this type octet
-abbrev pub kind_of : ℕ → Option Kind
-kind_of t = first (λ k. nat_eq (type_of k) t) kinds
 
 -- how many octets the value has
 abbrev pub size_of : Kind → ℕ
@@ -82,9 +70,6 @@ components_from cs zero (t ∷ xs) = after (component_from (types_in cs) t xs) (
 -- all components of a rule, of which there is at least one
 abbrev pub components_in : List ℕ → Result (List Component) Refusal
 components_in xs = after (components_from [] 0 xs) (λ cs. refuse_if (length cs == 0) refusal.Components (Ok cs))
-
-abbrev pub functionality_from : ℕ → Option Functionality
-functionality_from f = cond (f == 1) (Some OnlyOne) (cond (f == 2) (Some Mptcp) (cond (f == 3) (Some AtsssLl) None))
 
 abbrev pub active_from : ℕ → Option Mode
 active_from i =

@@ -1,24 +1,12 @@
 // Access descriptors in octets.
-ghost use Rattle.std.specs.Prelude.{◌≡◌, ◌+◌, ◌≤◌, length};
+ghost use Rattle.std.specs.Prelude.{◌≡◌, ◌≤◌, length};
 ghost use Rattle.std.specs.Option.{option_to_list};
-ghost use Rattle.layouts.specs.Layout.{functionality_code, mode_code, information, descriptor_octets};
-ghost use Rattle.layouts.specs.Memory.{written};
-ghost use Rattle.layouts.specs.Reading.{functionality_from, active_from, priority_from, mode_from, descriptor_from};
+ghost use Rattle.layouts.specs.Layout.{mode_code, information, descriptor_octets};
+ghost use Rattle.layouts.specs.Reading.{active_from, priority_from, mode_from, descriptor_from};
 
-use crate::memory::place;
+use crate::memory::InOctets;
 use rules::{Descriptor, Functionality, Mode};
 use terms::Access;
-
-fn functionality_from(code: u8) -> Option<Functionality>
-    ensures { result ≡ functionality_from code }
-{
-    match code {
-        1 => Some(Functionality::OnlyOne),
-        2 => Some(Functionality::Mptcp),
-        3 => Some(Functionality::AtsssLl),
-        _ => None,
-    }
-}
 
 fn active_from(information: u8) -> Option<Mode>
     ensures { result ≡ active_from information }
@@ -36,14 +24,9 @@ fn active_from(information: u8) -> Option<Mode>
 fn priority_from(information: u8) -> Option<Mode>
     ensures { result ≡ priority_from information }
 {
-    match information {
-        1 => Some(Mode::Priority {
-            first: Access::ThreeGpp,
-        }),
-        2 => Some(Mode::Priority {
-            first: Access::NonThreeGpp,
-        }),
-        _ => None,
+    match Access::try_from(information) {
+        Ok(first) => Some(Mode::Priority { first }),
+        Err(_) => None,
     }
 }
 
@@ -69,19 +52,9 @@ pub(crate) fn read_descriptor(octets: &[u8]) -> Option<Descriptor>
         return None;
     }
     Some(Descriptor {
-        functionality: functionality_from(*functionality)?,
+        functionality: Functionality::try_from(*functionality).ok()?,
         mode: mode_from(*mode, information)?,
     })
-}
-
-fn functionality_code(functionality: Functionality) -> u8
-    ensures { result ≡ functionality_code functionality }
-{
-    match functionality {
-        Functionality::OnlyOne => 1,
-        Functionality::Mptcp => 2,
-        Functionality::AtsssLl => 3,
-    }
 }
 
 fn mode_code(mode: Mode) -> u8
@@ -117,30 +90,30 @@ fn information_of(mode: Mode) -> Option<u8>
         } => Some(4),
         Mode::SmallestDelay => None,
         Mode::LoadBalancing { k } => Some(k),
-        Mode::Priority { first } => Some(first.code()),
+        Mode::Priority { first } => Some(u8::from(first)),
+    }
+}
+
+impl InOctets for Descriptor {
+    ghost octets = { descriptor_octets };
+
+    fn place(&self, memory: &mut [u8], at: usize) -> usize {
+        let functionality = u8::from(self.functionality);
+        let mode = mode_code(self.mode);
+        match information_of(self.mode) {
+            Some(information) => [4, functionality, mode, information].place(memory, at),
+            None => [3, functionality, mode].place(memory, at),
+        }
     }
 }
 
 // How many octets the descriptor has.
-pub(crate) fn descriptor_size(descriptor: Descriptor) -> u8
+pub(crate) fn descriptor_size(descriptor: Descriptor) -> usize
     ensures value { result ≡ length (descriptor_octets descriptor) }
     ensures bound { result ≤ 4 }
 {
     match information_of(descriptor.mode) {
         Some(_) => 4,
         None => 3,
-    }
-}
-
-pub(crate) fn place_descriptor(memory: &mut [u8], at: usize, descriptor: Descriptor) -> usize
-    requires { at + length (descriptor_octets descriptor) ≤ length memory.old }
-    ensures value { result ≡ at + length (descriptor_octets descriptor) }
-    ensures after { memory.new ≡ written at (descriptor_octets descriptor) memory.old }
-{
-    let functionality = functionality_code(descriptor.functionality);
-    let mode = mode_code(descriptor.mode);
-    match information_of(descriptor.mode) {
-        Some(information) => place(memory, at, &[4, functionality, mode, information]),
-        None => place(memory, at, &[3, functionality, mode]),
     }
 }

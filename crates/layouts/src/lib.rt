@@ -1,13 +1,12 @@
-// How a rule lies in octets: reading one and writing one.
+// How rules lie in octets: reading one, writing one and writing many.
 #![tactic(auto)]
 
 mod components;
 mod descriptors;
 pub mod memory;
-mod numbers;
 pub mod precedences;
 pub mod rule;
 
 pub use memory::write_octets;
 pub use precedences::Precedences;
-pub use rule::{RuleRead, read_rule, rule_size, write_rule};
+pub use rule::{RuleRead, read_rule, rule_size, rules_size, write_rule, write_rules};

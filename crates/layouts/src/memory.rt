@@ -1,35 +1,107 @@
 // Octets written into memory.
-ghost use Rattle.std.specs.Prelude.{◌≡◌, ◌+◌, ◌≤◌, ◌++◌, length};
+ghost use Rattle.std.specs.Prelude.{◌≡◌, ℕ, ◌+◌, ◌*◌, ◌^◌, ◌<◌, ◌≤◌, List, ◌++◌, length};
+ghost use Rattle.std.specs.List.{flat_map};
+ghost use Rattle.rules.specs.Lists.{listed};
 ghost use Rattle.layouts.specs.Memory.{written, Writes};
 
+use rules::AtMost;
 use terms::Refusal;
 
-// Writes the octets from a place on, and gives the place behind them.
-pub(crate) fn place(memory: &mut [u8], at: usize, octets: &[u8]) -> usize
-    requires { at + length octets.now ≤ length memory.old }
-    ensures value { result ≡ at + length octets.now }
-    ensures after { memory.new ≡ written at octets.now memory.old }
-{
-    let end = at + octets.len();
-    memory[at..end].copy_from_slice(octets);
-    end
+// What is written as octets.
+pub(crate) trait InOctets {
+    // the octets, in their order
+    ghost octets: { Self → List ℕ };
+
+    // Writes them into memory from a place on, and gives the place behind them.
+    fn place(&self, memory: &mut [u8], at: usize) -> usize
+        requires { at + length (octets self.now) ≤ length memory.old }
+        ensures value { result ≡ at + length (octets self.now) }
+        ensures after { memory.new ≡ written at (octets self.now) memory.old };
 }
 
-pub(crate) fn place_two(memory: &mut [u8], at: usize, first: &[u8], second: &[u8]) -> usize
-    requires { at + (length first.now + length second.now) ≤ length memory.old }
-    ensures value { result ≡ at + (length first.now + length second.now) }
-    ensures after { memory.new ≡ written at (first.now ++ second.now) memory.old }
+impl InOctets for &[u8] {
+    ghost octets = { λ octets. octets.now };
+
+    fn place(&self, memory: &mut [u8], at: usize) -> usize {
+        let end = at + self.len();
+        memory[at..end].copy_from_slice(self);
+        end
+    }
+}
+
+impl<const N: usize> InOctets for [u8; N] {
+    ghost octets = { λ octets. octets };
+
+    fn place(&self, memory: &mut [u8], at: usize) -> usize {
+        self.as_slice().place(memory, at)
+    }
+}
+
+// One behind the other.
+impl<A: InOctets, B: InOctets> InOctets for (A, B) {
+    ghost octets = { λ both. A.octets both.0 ++ B.octets both.1 };
+
+    fn place(&self, memory: &mut [u8], at: usize) -> usize {
+        let at = self.0.place(memory, at);
+        self.1.place(memory, at)
+    }
+}
+
+// One behind the other, as many as there are.
+impl<T: InOctets, const N: usize> InOctets for AtMost<T, N> {
+    ghost octets = { λ items. flat_map T.octets (listed items) };
+
+    fn place(&self, memory: &mut [u8], at: usize) -> usize {
+        let mut end = at;
+        for item in self.as_slice() {
+            end = item.place(memory, end);
+        }
+        end
+    }
+}
+
+// What knows how many octets it has.
+pub(crate) trait Measured: InOctets {
+    // the most that it can have
+    ghost most: { ℕ };
+
+    fn size(&self) -> usize
+        ensures value { result ≡ length (Self.octets self.now) }
+        ensures bound { result ≤ most };
+}
+
+// How many octets all of them have.
+pub(crate) fn size_of_all<T: Measured>(items: &[T]) -> usize
+    requires { T.most * length items.now < 2 ^ 64 }
+    ensures value { result ≡ length (flat_map T.octets items.now) }
+    ensures bound { result ≤ T.most * length items.now }
 {
-    let middle = place(memory, at, first);
-    place(memory, middle, second)
+    let mut size = 0;
+    for item in items {
+        size += item.size();
+    }
+    size
+}
+
+// Writes what has so many octets into the memory from a place on, all of it or nothing.
+pub(crate) fn write<T: InOctets>(
+    item: &T,
+    size: usize,
+    memory: &mut [u8],
+    at: usize,
+) -> Result<usize, Refusal>
+    requires { size ≡ length (T.octets item.now) }
+    ensures { Writes at (T.octets item.now) memory.old result memory.new }
+{
+    if at > memory.len() || memory.len() - at < size {
+        return Err(Refusal::Memory);
+    }
+    Ok(item.place(memory, at))
 }
 
 // Writes the octets into the memory from a place on, and gives the place behind them.
 pub fn write_octets(octets: &[u8], memory: &mut [u8], at: usize) -> Result<usize, Refusal>
     ensures { Writes at octets.now memory.old result memory.new }
 {
-    if at > memory.len() || memory.len() - at < octets.len() {
-        return Err(Refusal::Memory);
-    }
-    Ok(place(memory, at, octets))
+    write(&octets, octets.len(), memory, at)
 }

@@ -1,20 +1,20 @@
-// One rule in octets.
-ghost use Rattle.std.specs.Prelude.{◌≡◌, ◌+◌, ◌<◌, ◌≤◌, length, IfOk, Ok};
+// One rule in octets, and rules one behind the other.
+ghost use Rattle.std.specs.Prelude.{◌≡◌, ◌+◌, ◌≤◌, map, length, IfOk, Ok};
 ghost use Rattle.terms.specs.Replies.{seen_as};
+ghost use Rattle.rules.specs.Lists.{listed};
 ghost use Rattle.rules.specs.Rules.{saying};
-ghost use Rattle.layouts.specs.Layout.{rule_body, rule_octets};
-ghost use Rattle.layouts.specs.Memory.{written, Writes};
+ghost use Rattle.layouts.specs.Layout.{rule_body, rule_octets, rules_octets};
+ghost use Rattle.layouts.specs.Memory.{Writes};
 ghost use Rattle.layouts.specs.Precedence.{has};
-ghost use Rattle.layouts.specs.Reading.{field, frame_from, rule_from};
+ghost use Rattle.layouts.specs.Reading.{frame_from, rule_from};
 ghost use Rattle.layouts.specs.Rule.{framing, ruling};
 
-use crate::components::{components_size, place_components, read_components};
-use crate::descriptors::{descriptor_size, place_descriptor, read_descriptor};
-use crate::memory::place;
-use crate::numbers::u16_of;
+use crate::components::read_components;
+use crate::descriptors::{descriptor_size, read_descriptor};
+use crate::memory::{InOctets, Measured, size_of_all, write};
 use crate::precedences::Precedences;
-use octets::octets_of;
-use rules::Rule;
+use octets::{number_of, octets_of};
+use rules::{Rule, Rules};
 use terms::Refusal;
 
 // The frame of a rule: its precedence, how many octets its components have,
@@ -26,14 +26,6 @@ struct Frame {
     size: usize,
 }
 
-fn number_at(octets: &[u8], at: usize) -> usize
-    requires { at + 2 ≤ length octets.now }
-    ensures value { result ≡ field at 2 octets.now }
-    ensures bound { result < 65536 }
-{
-    usize::from(u16_of(&octets[at..at + 2]))
-}
-
 fn read_frame(octets: &[u8]) -> Result<Frame, Refusal>
     ensures value { seen_as framing result ≡ frame_from octets.now }
     ensures inside { IfOk result (λ f. (5 + f.components ≤ f.size) × (f.size ≤ length octets.now)) }
@@ -41,11 +33,11 @@ fn read_frame(octets: &[u8]) -> Result<Frame, Refusal>
     if octets.len() < 2 {
         return Err(Refusal::Frame);
     }
-    let length = number_at(octets, 0);
+    let length = number_of(&octets[0..2]) as usize;
     if length < 3 || octets.len() < 2 + length {
         return Err(Refusal::Frame);
     }
-    let components = number_at(octets, 3);
+    let components = number_of(&octets[3..5]) as usize;
     if length != components + 6 && length != components + 7 {
         return Err(Refusal::Frame);
     }
@@ -86,9 +78,7 @@ fn read_framed(frame: Frame, octets: &[u8], met: &Precedences) -> Result<RuleRea
     } = frame;
     let end = 5 + length;
     let components = read_components(&octets[5..end])?;
-    let Some(descriptor) = read_descriptor(&octets[end..size]) else {
-        return Err(Refusal::Descriptor);
-    };
+    let descriptor = read_descriptor(&octets[end..size]).ok_or(Refusal::Descriptor)?;
     if met.contains(precedence) {
         return Err(Refusal::Precedence);
     }
@@ -113,28 +103,46 @@ fn body_size(rule: &Rule) -> usize
     ensures value { result ≡ length (rule_body (saying rule.now)) }
     ensures bound { result ≤ 151 }
 {
-    3 + components_size(rule.components.as_slice()) + usize::from(descriptor_size(rule.descriptor))
+    3 + size_of_all(rule.components.as_slice()) + descriptor_size(rule.descriptor)
+}
+
+impl InOctets for Rule {
+    ghost octets = { λ rule. rule_octets (saying rule) };
+
+    fn place(&self, memory: &mut [u8], at: usize) -> usize {
+        let [b0, b1] = octets_of::<2>(body_size(self) as u128);
+        let [s0, s1] = octets_of::<2>(size_of_all(self.components.as_slice()) as u128);
+        let head = [b0, b1, self.precedence, s0, s1];
+        (head, (self.components, self.descriptor)).place(memory, at)
+    }
+}
+
+impl Measured for Rule {
+    ghost most = { 153 };
+
+    fn size(&self) -> usize {
+        rule_size(self)
+    }
 }
 
 // Writes the rule into the memory from a place on, and gives the place behind it.
 pub fn write_rule(rule: &Rule, memory: &mut [u8], at: usize) -> Result<usize, Refusal>
     ensures { Writes at (rule_octets (saying rule.now)) memory.old result memory.new }
 {
-    if at > memory.len() || memory.len() - at < rule_size(rule) {
-        return Err(Refusal::Memory);
-    }
-    Ok(place_rule(rule, memory, at))
+    write(rule, rule_size(rule), memory, at)
 }
 
-fn place_rule(rule: &Rule, memory: &mut [u8], at: usize) -> usize
-    requires { at + length (rule_octets (saying rule.now)) ≤ length memory.old }
-    ensures value { result ≡ at + length (rule_octets (saying rule.now)) }
-    ensures after { memory.new ≡ written at (rule_octets (saying rule.now)) memory.old }
+// How many octets the rules have.
+pub fn rules_size(rules: &Rules) -> usize
+    ensures value { result ≡ length (rules_octets (map saying (listed rules.now))) }
+    ensures bound { result ≤ 19584 }
 {
-    let components = rule.components.as_slice();
-    let [b0, b1] = octets_of::<2>(body_size(rule) as u128);
-    let [s0, s1] = octets_of::<2>(components_size(components) as u128);
-    let at = place(memory, at, &[b0, b1, rule.precedence, s0, s1]);
-    let at = place_components(memory, at, components);
-    place_descriptor(memory, at, rule.descriptor)
+    size_of_all(rules.as_slice())
+}
+
+// Writes the rules into the memory from a place on, and gives the place behind them.
+pub fn write_rules(rules: &Rules, memory: &mut [u8], at: usize) -> Result<usize, Refusal>
+    ensures { Writes at (rules_octets (map saying (listed rules.now))) memory.old result memory.new }
+{
+    write(rules, rules_size(rules), memory, at)
 }

@@ -1,17 +1,10 @@
 -- Laws of numbers as octets.
-use Rattle.std.proofs.Common.{◌≡◌, ℕ, zero, suc, ◌+◌, ◌-◌, ◌*◌, ◌/◌, ◌%◌, ◌^◌, ◌<◌, ◌≤◌, List, [], ◌∷◌, ◌++◌, length, get_or, take, drop, set, sym, refl, ap, ◌∙◌, append_assoc, lt_of_lt_of_le, zero-lt-suc, add-one, arith}
+use Rattle.std.proofs.Common.{◌≡◌, ℕ, zero, suc, ◌+◌, ◌*◌, ◌/◌, ◌%◌, ◌^◌, ◌<◌, ◌≤◌, List, [], ◌∷◌, ◌++◌, length, get_or, take, drop, sym, refl, ap, ◌∙◌, lt_of_lt_of_le, zero-lt-suc, add-one, arith}
 use native.Mathlib.Nat.{pow-le-pow_right}
 use Rattle.std.specs.Int.Digits.{number_from_digits, AllBelowBase}
 use Rattle.std.proofs.lemmas.Int.Digits.{number_lt, number_push}
-use Rattle.std.proofs.lemmas.List.{drop-set, get_or-drop, length_push, length-take-le, nil_from_length, take_all, take_more}
+use Rattle.std.proofs.lemmas.List.{get_or-drop, length_push, length-take-le, nil_from_length, take_all, take_more}
 use Rattle.octets.specs.Numbers.{Octets, be}
-
--- one octet moves from the number to what is written
-pub be_step : (i n : ℕ) (xs : List ℕ) → 0 < i → i ≤ length xs → be i n ++ drop i xs ≡ be (i - 1) (n / 256) ++ drop (i - 1) (set xs (i - 1) (n % 256))
-be_step zero n xs p h = absurd (omega arith)
-be_step (suc j) n xs p h =
-    let e : suc j - 1 ≡ j = omega arith in
-    rw (e, append_assoc, drop-set xs j (n % 256) h, add-one)
 
 pub octets_cons : (x : ℕ) (xs : List ℕ) → x < 256 → Octets xs → Octets (x ∷ xs)
 octets_cons x xs h t zero = h

@@ -1,11 +1,13 @@
 // Numbers as octets, the highest first.
-ghost use Rattle.std.specs.Prelude.{◌≡◌, ◌%◌, ◌^◌};
+ghost use Rattle.std.specs.Prelude.{◌≡◌, ◌%◌, ◌^◌, ◌<◌, ◌≤◌, length};
 ghost use Rattle.std.specs.Int.Digits.{number_from_digits};
 ghost use Rattle.octets.specs.Numbers.{be};
 
 // The number that the octets write; of more than 16 of them, that of the last 16.
 pub fn number_of(octets: &[u8]) -> u128
-    ensures { result ≡ number_from_digits 256 octets.now % 2 ^ 128 }
+    ensures value { result ≡ number_from_digits 256 octets.now % 2 ^ 128 }
+    ensures exact { length octets.now ≤ 16 → result ≡ number_from_digits 256 octets.now }
+    ensures bound { result < 256 ^ length octets.now }
 {
     let mut number: u128 = 0;
     for octet in octets {

@@ -1,11 +1,10 @@
 -- Components: the type of each, and which values it may have.
-use Rattle.std.specs.Prelude.{◌≡◌, ℕ, ◌^◌, Bool, true, false, ◌&&◌, ◌==◌, List, [], ◌∷◌, ◌++◌, length, take, replicate, Ok, Err, MatchBool, Result, nat_le, nat_lt}
-use Rattle.terms.specs.declared.refusal.Refusal.{Refusal}
-use Rattle.terms.specs.declared.refusal.Refusal.TheVariants as refusal
+use Rattle.std.specs.Prelude.{ℕ, ◌^◌, Bool, true, false, cond, ◌&&◌, ◌==◌, List, [], ◌∷◌, Some, None, Option, nat_eq, nat_le, nat_lt}
+use Rattle.rules.specs.Lists.{none_of}
+use Rattle.rules.specs.declared.at_most.AtMost.{AtMost}
 use Rattle.rules.specs.declared.component.Kind.{Kind}
 use Rattle.rules.specs.declared.component.Kind.TheVariants as kind
 use Rattle.rules.specs.declared.component.Component.{Component}
-use Rattle.rules.specs.declared.component.Components.{Components}
 use Rattle.rules.specs.declared.component.Component.TheVariants.{MatchAll, Ipv4, Ipv6, Protocol, Port, PortRange, SecurityIndex, ServiceType, FlowLabel}
 
 -- the octet by which a sheet names a type
@@ -19,6 +18,18 @@ type_of kind.PortRange = 0x51
 type_of kind.SecurityIndex = 0x60
 type_of kind.ServiceType = 0x70
 type_of kind.FlowLabel = 0x80
+
+-- the first that passes a test
+abbrev pub first : {A : Type 0} → (A → Bool) → List A → Option A
+first f [] = None
+first f (x ∷ xs) = cond (f x) (Some x) (first f xs)
+
+abbrev pub kinds : List Kind
+kinds = kind.MatchAll ∷ (kind.Ipv4 ∷ (kind.Ipv6 ∷ (kind.Protocol ∷ (kind.Port ∷ (kind.PortRange ∷ (kind.SecurityIndex ∷ (kind.ServiceType ∷ (kind.FlowLabel ∷ []))))))))
+
+-- the kind that has this type octet
+abbrev pub kind_of : ℕ → Option Kind
+kind_of t = first (λ k. nat_eq (type_of k) t) kinds
 
 abbrev pub kind_in : Component → Kind
 kind_in MatchAll = kind.MatchAll
@@ -60,13 +71,6 @@ same_component (ServiceType a m) (ServiceType b n) = a == b && m == n
 same_component (FlowLabel a) (FlowLabel b) = a == b
 same_component _ _ = false
 
--- what an array with a count holds
-abbrev pub listed : Components → List Component
-listed cs = take cs.count cs.array
-
-abbrev pub no_components : Components
-no_components = record { array = replicate 8 MatchAll; count = 0 }
-
--- what adding a component gives: it stands behind the others; to eight none is added, and they are as they were
-abbrev pub Pushes : Components → Component → Result (Unit {0}) Refusal → Components → Type 0
-Pushes cs c r cs' = MatchBool (nat_lt (length (listed cs)) 8) ((r ≡ Ok tt) × (listed cs' ≡ listed cs ++ (c ∷ []))) ((r ≡ Err refusal.Components) × (cs' ≡ cs))
+-- no component, as a rule that is not there has them
+abbrev pub no_components : AtMost Component 8
+no_components = none_of MatchAll

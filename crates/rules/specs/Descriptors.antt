@@ -1,5 +1,5 @@
 -- Access descriptors.
-use Rattle.std.specs.Prelude.{ℕ, ◌-◌, ◌*◌, Bool, true, false, ◌&&◌, ◌==◌, Some, None, Option, nat_le}
+use Rattle.std.specs.Prelude.{ℕ, ◌-◌, ◌*◌, Bool, true, false, cond, ◌&&◌, ◌==◌, Some, None, Option, nat_le}
 use Rattle.std.specs.Bool.{beq}
 use Rattle.terms.specs.Accesses.{code_of}
 use Rattle.rules.specs.declared.descriptor.Functionality.{Functionality}
@@ -7,6 +7,16 @@ use Rattle.rules.specs.declared.descriptor.Functionality.TheVariants.{OnlyOne, M
 use Rattle.rules.specs.declared.descriptor.Mode.{Mode}
 use Rattle.rules.specs.declared.descriptor.Descriptor.{Descriptor}
 use Rattle.rules.specs.declared.descriptor.Mode.TheVariants.{ActiveStandby, SmallestDelay, LoadBalancing, Priority}
+
+-- the octet by which a sheet names a functionality
+abbrev pub functionality_code : Functionality → ℕ
+functionality_code OnlyOne = 1
+functionality_code Mptcp = 2
+functionality_code AtsssLl = 3
+
+-- the functionality that has this octet
+abbrev pub functionality_from : ℕ → Option Functionality
+functionality_from f = cond (f == 1) (Some OnlyOne) (cond (f == 2) (Some Mptcp) (cond (f == 3) (Some AtsssLl) None))
 
 -- the percentage of a rule's octets that 3GPP is to carry, where the mode splits
 abbrev pub share : Mode → Option ℕ

@@ -1,4 +1,5 @@
 pub mod Components
 pub mod Descriptors
+pub mod Lists
 pub mod Rules
 pub mod Same

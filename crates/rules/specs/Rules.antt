@@ -1,10 +1,13 @@
 -- What a rule says, and which sets of rules are sound.
 use Rattle.std.specs.Prelude.{ℕ, Bool, true, false, not, ◌&&◌, ◌||◌, List, [], ◌∷◌, map, length, ◌==◌, nat_le}
 use Rattle.std.specs.Cmp.Lexicographic.{pointwise}
-use Rattle.rules.specs.Components.{type_of, kind_in, holds, in_column, same_component, listed}
+use Rattle.rules.specs.Components.{type_of, kind_in, holds, in_column, same_component, no_components}
 use Rattle.rules.specs.Descriptors.{mode_in_column, same_descriptor}
+use Rattle.rules.specs.Lists.{listed}
 use Rattle.rules.specs.declared.component.Component.{Component}
 use Rattle.rules.specs.declared.descriptor.Descriptor.{Descriptor}
+use Rattle.rules.specs.declared.descriptor.Functionality.TheVariants.{OnlyOne}
+use Rattle.rules.specs.declared.descriptor.Mode.TheVariants.{SmallestDelay}
 use Rattle.rules.specs.declared.rule.Rule.{Rule}
 
 -- a rule, by what it says
@@ -15,6 +18,15 @@ pub record Said : Type 0 where
 
 abbrev pub saying : Rule → Said
 saying r = record { precedence = r.precedence; components = listed r.components; descriptor = r.descriptor }
+
+-- what stands where there is no rule: a rule of no component
+abbrev pub empty_rule : Rule
+empty_rule =
+    record {
+      precedence = 0;
+      components = no_components;
+      descriptor = record { functionality = OnlyOne; mode = SmallestDelay };
+    }
 
 -- whether two rules say the same
 abbrev pub same_rule : Said → Said → Bool

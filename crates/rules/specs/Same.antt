@@ -6,6 +6,8 @@ use Rattle.std.proofs.lemmas.Bool.Decides.{nat_tests, Decides-and, Decides-eqb, 
 use Rattle.rules.specs.Components.{same_component}
 use Rattle.rules.specs.Descriptors.{same_functionality, same_mode, same_descriptor}
 use Rattle.rules.specs.Rules.{Said, same_rule}
+use Rattle.rules.specs.contracts.component.ComponentPartialEq.TheImpl as ComponentPartialEq
+use Rattle.rules.specs.contracts.descriptor.DescriptorPartialEq.TheImpl as DescriptorPartialEq
 use Rattle.rules.specs.declared.component.Component.{Component}
 use Rattle.rules.specs.declared.descriptor.Descriptor.{Descriptor}
 use Rattle.rules.specs.declared.descriptor.Functionality.{Functionality}
@@ -48,3 +50,10 @@ same_rule-Decides x y =
 
 pub same_rule_equiv : IsEquivalence same_rule
 same_rule_equiv = decided same_rule same_rule-Decides
+
+-- the derived `==` compares components and descriptors so
+pub component_eq : (x y : Component) → ComponentPartialEq.ghosts.eq x y ≡ same_component x y
+component_eq x y = grind (arith, nat_tests)
+
+pub descriptor_eq : (x y : Descriptor) → DescriptorPartialEq.ghosts.eq x y ≡ same_descriptor x y
+descriptor_eq x y = grind (arith, nat_tests)

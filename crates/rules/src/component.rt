@@ -1,9 +1,11 @@
 // Components: what a rule asks of a packet.
-ghost use Rattle.std.specs.Prelude.{◌≡◌, ◌<◌, ◌≤◌, [], ◌∷◌, ◌++◌, length, IsTrue, ◌↔◌};
-ghost use Rattle.rules.specs.Components.{kind_in, in_column, listed, no_components, Pushes, same_component};
-ghost use Rattle.std.specs.Cmp.{partial_equiv_from_equiv};
-ghost use Rattle.rules.specs.Same.{same_component_equiv};
+ghost use Rattle.std.specs.Prelude.{◌≡◌};
+ghost use Rattle.terms.specs.Replies.{found_or};
+ghost use Rattle.terms.specs.declared.refusal.Refusal.TheVariants as refusal;
+ghost use Rattle.rules.specs.Components.{type_of, kind_of, kind_in, in_column};
+ghost use Rattle.rules.specs.declared.component.Component.TheVariants.{MatchAll};
 
+use crate::at_most::{AtMost, Item};
 use terms::Refusal;
 
 // The nine types of component.
@@ -20,7 +22,7 @@ pub enum Kind {
     FlowLabel,
 }
 
-#[derive(Clone, Copy, Debug)]
+#[derive(Clone, Copy, Debug, PartialEq, Eq)]
 pub enum Component {
     MatchAll,
     Ipv4 { address: u32, mask: u32 },
@@ -31,6 +33,46 @@ pub enum Component {
     SecurityIndex { index: u32 },
     ServiceType { value: u8, mask: u8 },
     FlowLabel { label: u32 },
+}
+
+// The octet by which a sheet names the type.
+impl From<Kind> for u8 {
+    ghost from_gives = { λ kind code. code ≡ type_of kind };
+
+    fn from(kind: Kind) -> u8 {
+        match kind {
+            Kind::MatchAll => 0x01,
+            Kind::Ipv4 => 0x10,
+            Kind::Ipv6 => 0x21,
+            Kind::Protocol => 0x30,
+            Kind::Port => 0x50,
+            Kind::PortRange => 0x51,
+            Kind::SecurityIndex => 0x60,
+            Kind::ServiceType => 0x70,
+            Kind::FlowLabel => 0x80,
+        }
+    }
+}
+
+impl TryFrom<u8> for Kind {
+    type Error = Refusal;
+
+    ghost try_from_gives = { λ code r. r ≡ found_or (kind_of code) refusal.ComponentType };
+
+    fn try_from(code: u8) -> Result<Kind, Refusal> {
+        match code {
+            0x01 => Ok(Kind::MatchAll),
+            0x10 => Ok(Kind::Ipv4),
+            0x21 => Ok(Kind::Ipv6),
+            0x30 => Ok(Kind::Protocol),
+            0x50 => Ok(Kind::Port),
+            0x51 => Ok(Kind::PortRange),
+            0x60 => Ok(Kind::SecurityIndex),
+            0x70 => Ok(Kind::ServiceType),
+            0x80 => Ok(Kind::FlowLabel),
+            _ => Err(Refusal::ComponentType),
+        }
+    }
 }
 
 impl Component {
@@ -63,104 +105,16 @@ impl Component {
     }
 }
 
-impl PartialEq for Component {
-    ghost eq = { same_component };
+// A place with no component, and a ninth component.
+impl Item for Component {
+    ghost BLANK = { MatchAll };
 
-    ghost laws = { partial_equiv_from_equiv same_component_equiv };
+    const BLANK: Component = Component::MatchAll;
 
-    fn eq(&self, other: &Component) -> bool
-        ensures value { result ≡ same_component self.now other.now }
-        ensures decides { IsTrue result ↔ (self.now ≡ other.now) }
-    {
-        use Component::*;
-        match (*self, *other) {
-            (MatchAll, MatchAll) => true,
-            (
-                Ipv4 {
-                    address: a,
-                    mask: m,
-                },
-                Ipv4 {
-                    address: b,
-                    mask: n,
-                },
-            ) => a == b && m == n,
-            (
-                Ipv6 {
-                    address: a,
-                    prefix: m,
-                },
-                Ipv6 {
-                    address: b,
-                    prefix: n,
-                },
-            ) => a == b && m == n,
-            (Protocol { number: a }, Protocol { number: b }) => a == b,
-            (Port { number: a }, Port { number: b }) => a == b,
-            (PortRange { low: a, high: m }, PortRange { low: b, high: n }) => a == b && m == n,
-            (SecurityIndex { index: a }, SecurityIndex { index: b }) => a == b,
-            (ServiceType { value: a, mask: m }, ServiceType { value: b, mask: n }) => a == b
-                && m == n,
-            (FlowLabel { label: a }, FlowLabel { label: b }) => a == b,
-            _ => false,
-        }
-    }
+    ghost FULL = { refusal.Components };
+
+    const FULL: Refusal = Refusal::Components;
 }
 
-impl Eq for Component {
-    ghost laws = { same_component_equiv };
-}
-
-// The most components that a rule has.
-const MOST: usize = 8;
-
-// Components in their order: the first `count` of the array.
-#[derive(Clone, Copy, Debug)]
-pub struct Components {
-    pub array: [Component; 8],
-    pub count: usize,
-}
-
-impl Components {
-    pub fn none() -> Components
-        ensures { result ≡ no_components }
-    {
-        Components {
-            array: [Component::MatchAll; MOST],
-            count: 0,
-        }
-    }
-
-    // One component more, behind the others.
-    pub fn push(&mut self, component: Component) -> Result<(), Refusal>
-        ensures { Pushes self.old component result self.new }
-    {
-        let count = self.as_slice().len();
-        if count >= MOST {
-            return Err(Refusal::Components);
-        }
-        self.place(count, component);
-        Ok(())
-    }
-
-    // Puts the component behind the others, of which there are `count`.
-    fn place(&mut self, count: usize, component: Component)
-        requires all { count ≡ length (listed self.old) }
-        requires room { count < 8 }
-        ensures { listed self.new ≡ listed self.old ++ (component ∷ []) }
-    {
-        self.array[count] = component;
-        self.count = count + 1;
-    }
-
-    pub fn as_slice(&self) -> &[Component]
-        ensures value { result.now ≡ listed self.now }
-        ensures bound { length result.now ≤ 8 }
-    {
-        if self.count < MOST {
-            &self.array[0..self.count]
-        } else {
-            &self.array
-        }
-    }
-}
+// The components of a rule, in their order.
+pub type Components = AtMost<Component, 8>;

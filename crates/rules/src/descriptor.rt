@@ -1,10 +1,10 @@
 // Access descriptors: which functionality steers, and in which mode.
-ghost use Rattle.std.specs.Prelude.{◌≡◌, ◌-◌, ◌*◌, ◌↔◌, IsTrue};
-ghost use Rattle.std.specs.Cmp.{partial_equiv_from_equiv};
-ghost use Rattle.rules.specs.Descriptors.{share, same_descriptor};
-ghost use Rattle.rules.specs.Same.{same_descriptor_equiv};
+ghost use Rattle.std.specs.Prelude.{◌≡◌, ◌-◌, ◌*◌};
+ghost use Rattle.terms.specs.Replies.{found_or};
+ghost use Rattle.terms.specs.declared.refusal.Refusal.TheVariants as refusal;
+ghost use Rattle.rules.specs.Descriptors.{functionality_code, functionality_from, share};
 
-use terms::Access;
+use terms::{Access, Refusal};
 
 #[derive(Clone, Copy, PartialEq, Eq, Debug)]
 pub enum Functionality {
@@ -12,6 +12,34 @@ pub enum Functionality {
     OnlyOne,
     Mptcp,
     AtsssLl,
+}
+
+// The octet by which a sheet names it.
+impl From<Functionality> for u8 {
+    ghost from_gives = { λ functionality code. code ≡ functionality_code functionality };
+
+    fn from(functionality: Functionality) -> u8 {
+        match functionality {
+            Functionality::OnlyOne => 1,
+            Functionality::Mptcp => 2,
+            Functionality::AtsssLl => 3,
+        }
+    }
+}
+
+impl TryFrom<u8> for Functionality {
+    type Error = Refusal;
+
+    ghost try_from_gives = { λ code r. r ≡ found_or (functionality_from code) refusal.Descriptor };
+
+    fn try_from(code: u8) -> Result<Functionality, Refusal> {
+        match code {
+            1 => Ok(Functionality::OnlyOne),
+            2 => Ok(Functionality::Mptcp),
+            3 => Ok(Functionality::AtsssLl),
+            _ => Err(Refusal::Descriptor),
+        }
+    }
 }
 
 #[derive(Clone, Copy, PartialEq, Eq, Debug)]
@@ -42,25 +70,8 @@ pub fn share_of(k: u8) -> u8
     110u8.saturating_sub(k.saturating_mul(10))
 }
 
-#[derive(Clone, Copy, Debug)]
+#[derive(Clone, Copy, Debug, PartialEq, Eq)]
 pub struct Descriptor {
     pub functionality: Functionality,
     pub mode: Mode,
-}
-
-impl PartialEq for Descriptor {
-    ghost eq = { same_descriptor };
-
-    ghost laws = { partial_equiv_from_equiv same_descriptor_equiv };
-
-    fn eq(&self, other: &Descriptor) -> bool
-        ensures value { result ≡ same_descriptor self.now other.now }
-        ensures decides { IsTrue result ↔ (self.now ≡ other.now) }
-    {
-        self.functionality == other.functionality && self.mode == other.mode
-    }
-}
-
-impl Eq for Descriptor {
-    ghost laws = { same_descriptor_equiv };
 }

@@ -2,10 +2,12 @@
 // descriptor, and a rule of both with its precedence.
 #![tactic(auto)]
 
+pub mod at_most;
 pub mod component;
 pub mod descriptor;
 pub mod rule;
 
+pub use at_most::{AtMost, Item};
 pub use component::{Component, Components, Kind};
 pub use descriptor::{Descriptor, Functionality, Mode, share_of};
-pub use rule::Rule;
+pub use rule::{Rule, Rules};

@@ -2,11 +2,14 @@
 ghost use Rattle.std.specs.Prelude.{◌≡◌, ◌↔◌, IsTrue};
 ghost use Rattle.std.specs.Cmp.{on_equiv, partial_equiv_from_equiv};
 ghost use Rattle.std.specs.Ordering.{on};
-ghost use Rattle.rules.specs.Rules.{saying, same_rule};
+ghost use Rattle.terms.specs.declared.refusal.Refusal.TheVariants.{RuleCount};
+ghost use Rattle.rules.specs.Rules.{empty_rule, saying, same_rule};
 ghost use Rattle.rules.specs.Same.{same_rule_equiv};
 
-use crate::component::Components;
-use crate::descriptor::Descriptor;
+use crate::at_most::{AtMost, Item};
+use crate::component::{Component, Components};
+use crate::descriptor::{Descriptor, Functionality, Mode};
+use terms::Refusal;
 
 #[derive(Clone, Copy, Debug)]
 pub struct Rule {
@@ -36,3 +39,27 @@ impl PartialEq for Rule {
 impl Eq for Rule {
     ghost laws = { on_equiv saying same_rule_equiv };
 }
+
+// A place with no rule, and one rule too many.
+impl Item for Rule {
+    ghost BLANK = { empty_rule };
+
+    const BLANK: Rule = Rule {
+        precedence: 0,
+        components: Components {
+            array: [Component::MatchAll; 8],
+            count: 0,
+        },
+        descriptor: Descriptor {
+            functionality: Functionality::OnlyOne,
+            mode: Mode::SmallestDelay,
+        },
+    };
+
+    ghost FULL = { RuleCount };
+
+    const FULL: Refusal = Refusal::RuleCount;
+}
+
+// The rules of a sheet, in their order.
+pub type Rules = AtMost<Rule, 128>;

@@ -1,8 +1,8 @@
 -- Where a sheet is refused, and where it is read.
 use Rattle.std.proofs.Common.{◌≡◌, ℕ, ◌-◌, ◌<◌, ◌≤◌, true, false, ◌||◌, eqb, ltb, ◌⊎◌, List, [], length, take, drop, Ok, Err, ◌∙◌, ⊎_elim}
-use Rattle.std.proofs.lemmas.Bool.{eq-eqb, le-ltb, lt-ltb, ne_eqb, or_from, or_left, or_right}
+use Rattle.std.proofs.lemmas.Bool.{le-ltb, lt-ltb, ne_eqb, or_from, or_left, or_right}
 use Rattle.terms.specs.declared.refusal.Refusal.{Refusal}
-use Rattle.terms.specs.declared.refusal.Refusal.TheVariants.{SheetSize, RuleCount, Distance}
+use Rattle.terms.specs.declared.refusal.Refusal.TheVariants.{SheetSize}
 use Rattle.terms.proofs.Replies.{after_ok, after_err, refuse_not, refuse_so}
 use Rattle.rules.specs.Rules.{Said}
 use Rattle.sheets.specs.Reading.{rules_from, count_in, distance_in, heading_in, sheet_from}
@@ -17,18 +17,9 @@ module _ (ys : List ℕ) (three : 3 ≤ length ys) (limit : length ys ≤ 16384)
   sized : (ltb (length ys) 3 || ltb 16384 (length ys)) ≡ false
   sized = or_from _ _ (le-ltb (length ys) 3 three) (le-ltb 16384 (length ys) limit)
 
-  pub count_refused : (count_in ys ≡ 0) ⊎ ((count_in ys ≡ 0 → ⊥) × (128 < count_in ys)) → sheet_from ys ≡ Err RuleCount
-  count_refused h =
-      let so : (eqb (count_in ys) 0 || ltb 128 (count_in ys)) ≡ true
-      = ⊎_elim (λ e. or_left (eqb (count_in ys) 0) _ (eq-eqb (count_in ys) 0 e)) (λ l. or_right (eqb (count_in ys) 0) _ (lt-ltb 128 (count_in ys) l.1)) h in
-      refuse_not _ _ sized ∙ refuse_so _ _ so
-
   module _ (some : count_in ys ≡ 0 → ⊥) (few : count_in ys ≤ 128) where
     counted : (eqb (count_in ys) 0 || ltb 128 (count_in ys)) ≡ false
     counted = or_from _ _ (ne_eqb (count_in ys) 0 some) (le-ltb 128 (count_in ys) few)
-
-    pub distance_refused : length ys - 3 < distance_in ys → sheet_from ys ≡ Err Distance
-    distance_refused h = refuse_not _ _ sized ∙ refuse_not _ _ counted ∙ refuse_so _ _ (lt-ltb (length ys - 3) (distance_in ys) h)
 
     module _ (inside : distance_in ys ≤ length ys - 3) where
       distanced : ltb (length ys - 3) (distance_in ys) ≡ false

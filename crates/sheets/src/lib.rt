@@ -2,7 +2,6 @@
 #![tactic(auto)]
 
 pub mod rule_set;
-mod table;
 
 pub use rule_set::RuleSet;
 pub use rule_set::reading::{LIMIT, Sheet, read};

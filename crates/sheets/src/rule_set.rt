@@ -3,7 +3,7 @@ ghost use Rattle.std.specs.Prelude.{◌≡◌, true};
 ghost use Rattle.rules.specs.Rules.{sound};
 ghost use Rattle.sheets.specs.Tables.{said};
 
-use crate::table::RuleTable;
+use rules::Rules;
 
 pub mod parts;
 pub mod reading;
@@ -12,6 +12,6 @@ pub mod writing;
 
 #[derive(Clone, Copy)]
 pub struct RuleSet {
-    table: RuleTable,
+    table: Rules,
     ghost sound: { sound (said table) ≡ true },
 }

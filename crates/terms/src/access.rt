@@ -1,8 +1,6 @@
 // The two accesses of a session, and their codes.
-ghost use Rattle.std.specs.Prelude.{◌≡◌, Some, MatchResult, ◌≢◌};
-ghost use Rattle.terms.specs.declared.access.Access.{Access};
-ghost use Rattle.terms.specs.declared.refusal.Refusal.TheVariants.{Unknown};
-ghost use Rattle.terms.specs.Accesses.{code_of, name_of};
+ghost use Rattle.std.specs.Prelude.{◌≡◌, Some};
+ghost use Rattle.terms.specs.Accesses.{code_of, name_of, HasCode};
 
 use crate::refusal::Refusal;
 use std::fmt;
@@ -13,20 +11,25 @@ pub enum Access {
     NonThreeGpp,
 }
 
-impl Access {
-    pub fn code(self) -> u8
-        ensures { result ≡ code_of self }
-    {
-        match self {
+// Its code.
+impl From<Access> for u8 {
+    ghost from_gives = { λ access code. code ≡ code_of access };
+
+    fn from(access: Access) -> u8 {
+        match access {
             Access::ThreeGpp => 1,
             Access::NonThreeGpp => 2,
         }
     }
+}
 
-    // The access that has this code.
-    pub fn from_code(code: u8) -> Result<Access, Refusal>
-        ensures { MatchResult result (λ a. code ≡ code_of a) (λ e. (e ≡ Unknown) × ((a : Access) → code ≢ code_of a)) }
-    {
+// The access that has this code.
+impl TryFrom<u8> for Access {
+    type Error = Refusal;
+
+    ghost try_from_gives = { HasCode };
+
+    fn try_from(code: u8) -> Result<Access, Refusal> {
         match code {
             1 => Ok(Access::ThreeGpp),
             2 => Ok(Access::NonThreeGpp),

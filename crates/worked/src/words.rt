@@ -7,10 +7,10 @@ mod tests {
 
     #[test]
     fn accesses_by_their_codes(rt: HostRuntime) -> Result<(), Fail> {
-        assert_eq!(rt; Access::from_code(1)?, Access::ThreeGpp);
-        assert_eq!(rt; Access::from_code(2)?, Access::NonThreeGpp);
+        assert_eq!(rt; Access::try_from(1)?, Access::ThreeGpp);
+        assert_eq!(rt; Access::try_from(2)?, Access::NonThreeGpp);
         for code in [0, 3, 255] {
-            match Access::from_code(code) {
+            match Access::try_from(code) {
                 Ok(_) => panic!(rt; "an access: {code}"),
                 Err(refusal) => assert_eq!(rt; refusal, Refusal::Unknown, "{}", code),
             }

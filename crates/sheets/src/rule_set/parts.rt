@@ -1,5 +1,5 @@
 // The rules of a set.
-ghost use Rattle.std.specs.Prelude.{◌≡◌, ◌≤◌, ◌↔◌, map, length, Decides, IsTrue};
+ghost use Rattle.std.specs.Prelude.{◌≡◌, ◌≤◌, ◌↔◌, map, length, IsTrue};
 ghost use Rattle.std.specs.Cmp.{on_equiv, partial_equiv_from_equiv};
 ghost use Rattle.std.specs.Cmp.Lexicographic.{lists_equiv, pointwise};
 ghost use Rattle.std.specs.Ordering.{on};
@@ -8,7 +8,6 @@ ghost use Rattle.rules.specs.Same.{same_rule_equiv};
 ghost use Rattle.sheets.specs.Sets.{rules_of, At};
 
 use crate::rule_set::RuleSet;
-use crate::table::RuleTable;
 use rules::Rule;
 use terms::Refusal;
 
@@ -25,25 +24,8 @@ impl RuleSet {
     pub fn rule(&self, position: usize) -> Result<&Rule, Refusal>
         ensures { At (rules_of self.now) position result }
     {
-        rule_at(self.rules(), position)
+        self.rules().get(position).ok_or(Refusal::Unknown)
     }
-}
-
-fn rule_at(rules: &[Rule], position: usize) -> Result<&Rule, Refusal>
-    ensures { At (map saying rules.now) position result }
-{
-    if position < rules.len() {
-        Ok(&rules[position])
-    } else {
-        Err(Refusal::Unknown)
-    }
-}
-
-fn say_the_same(left: &[Rule], right: &[Rule]) -> bool
-    ensures value { result ≡ pointwise same_rule (map saying left.now) (map saying right.now) }
-    ensures decides { Decides result (map saying left.now ≡ map saying right.now) }
-{
-    left == right
 }
 
 // Sets are equal where they say the same rules in the same order.
@@ -56,7 +38,7 @@ impl PartialEq for RuleSet {
         ensures value { result ≡ pointwise same_rule (rules_of self.now) (rules_of other.now) }
         ensures decides { IsTrue result ↔ (rules_of self.now ≡ rules_of other.now) }
     {
-        say_the_same(self.rules(), other.rules())
+        self.rules() == other.rules()
     }
 }
 

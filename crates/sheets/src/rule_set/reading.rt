@@ -7,30 +7,33 @@ ghost use Rattle.sheets.specs.Sets.{sheeting};
 ghost use Rattle.sheets.specs.Tables.{said};
 
 use crate::rule_set::RuleSet;
-use crate::table::{MOST, RuleTable};
 use layouts::{Precedences, RuleRead, read_rule};
 use octets::number_of;
+use rules::Rules;
 use terms::Refusal;
 
 // So many rules, and nothing behind them.
-fn read_rules(octets: &[u8], count: usize) -> Result<RuleTable, Refusal>
+fn read_rules(octets: &[u8], count: usize) -> Result<Rules, Refusal>
     requires { count ≤ 128 }
     ensures { seen_as said result ≡ rules_from count [] octets.now }
 {
-    let mut table = RuleTable::empty();
+    let mut rules = Rules::none();
     let mut met = Precedences::none();
-    let mut at = 0;
-    for i in 0..count {
-        let RuleRead { rule, size } = read_rule(&octets[at..], &met)?;
+    let mut rest = octets;
+    for _ in 0..count {
+        let RuleRead { rule, size } = read_rule(rest, &met)?;
         met.insert(rule.precedence);
-        table.push(rule);
-        at += size;
+        rules.push(rule)?;
+        rest = &rest[size..];
     }
-    if at < octets.len() {
+    if !rest.is_empty() {
         return Err(Refusal::Surplus);
     }
-    Ok(table)
+    Ok(rules)
 }
+
+// The most rules that a sheet has.
+const MOST: usize = 128;
 
 // The most octets that a sheet has.
 pub const LIMIT: usize = 16384;
@@ -56,8 +59,7 @@ pub fn read(octets: &[u8]) -> Result<Sheet, Refusal>
 fn read_within(octets: &[u8]) -> Result<Sheet, Refusal>
     requires least { 3 ≤ length octets.now }
     requires most { length octets.now ≤ 16384 }
-    ensures value { seen_as sheeting result ≡ sheet_from octets.now }
-    ensures law { Lawful octets.now (seen_as sheeting result) }
+    ensures { seen_as sheeting result ≡ sheet_from octets.now }
 {
     let trailer = octets.len() - 3;
     let count = usize::from(octets[trailer]);

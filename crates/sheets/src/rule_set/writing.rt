@@ -1,17 +1,14 @@
 // Writing a sheet.
-ghost use Rattle.std.specs.Prelude.{◌≡◌, ◌+◌, ◌≤◌, map, length, take, IfOk, Ok};
-ghost use Rattle.layouts.specs.Memory.{written};
-ghost use Rattle.rules.specs.Rules.{saying};
-ghost use Rattle.sheets.specs.Layout.{rules_octets};
+ghost use Rattle.std.specs.Prelude.{◌≡◌, ◌+◌, ◌≤◌, length, take, IfOk, Ok};
+ghost use Rattle.layouts.specs.Layout.{rules_octets};
 ghost use Rattle.sheets.specs.Reading.{sheet_from};
 ghost use Rattle.sheets.specs.Sets.{rules_of};
 ghost use Rattle.sheets.specs.Writing.{Writes};
 
 use crate::rule_set::RuleSet;
 use crate::rule_set::reading::LIMIT;
-use layouts::{rule_size, write_octets, write_rule};
+use layouts::{rules_size, write_octets, write_rules};
 use octets::octets_of;
-use rules::Rule;
 use terms::Refusal;
 
 // Writes the sheet of the set under the heading into the front of the memory, and gives its length.
@@ -34,7 +31,7 @@ fn sheet_size(set: &RuleSet, heading: &[u8]) -> usize
     requires { length heading.now ≤ 16384 }
     ensures { result ≡ length heading.now + length (rules_octets (rules_of set.now)) + 3 }
 {
-    heading.len() + rules_size(set.rules()) + 3
+    heading.len() + rules_size(&set.table) + 3
 }
 
 // Writes a sheet that fits.
@@ -44,34 +41,8 @@ fn write_fitting(set: &RuleSet, heading: &[u8], memory: &mut [u8]) -> Result<usi
     ensures value { Writes heading.now (rules_of set.now) memory.old result memory.new }
     ensures back { IfOk result (λ n. sheet_from (take n memory.new) ≡ Ok (length heading.now, rules_of set.now)) }
 {
-    let rules = set.rules();
     let at = write_octets(heading, memory, 0)?;
-    let at = write_rules(rules, memory, at)?;
-    let [d0, d1] = octets_of::<2>(rules_size(rules) as u128);
-    write_octets(&[rules.len() as u8, d0, d1], memory, at)
-}
-
-// How many octets the rules have.
-fn rules_size(rules: &[Rule]) -> usize
-    requires { length rules.now ≤ 128 }
-    ensures value { result ≡ length (rules_octets (map saying rules.now)) }
-    ensures bound { result ≤ 19584 }
-{
-    let mut size = 0;
-    for rule in rules {
-        size += rule_size(rule);
-    }
-    size
-}
-
-fn write_rules(rules: &[Rule], memory: &mut [u8], at: usize) -> Result<usize, Refusal>
-    requires { at + length (rules_octets (map saying rules.now)) ≤ length memory.old }
-    ensures value { result ≡ Ok (at + length (rules_octets (map saying rules.now))) }
-    ensures after { memory.new ≡ written at (rules_octets (map saying rules.now)) memory.old }
-{
-    let mut end = at;
-    for rule in rules {
-        end = write_rule(rule, memory, end)?;
-    }
-    Ok(end)
+    let at = write_rules(&set.table, memory, at)?;
+    let [d0, d1] = octets_of::<2>(rules_size(&set.table) as u128);
+    write_octets(&[set.rules().len() as u8, d0, d1], memory, at)
 }

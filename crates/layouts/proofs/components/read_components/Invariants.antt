@@ -1,9 +1,9 @@
-use Rattle.std.proofs.Common.{◌-◌, length}
+use Rattle.std.proofs.Common.{length}
 use Rattle.layouts.proofs.Rows.{Found}
 use Rattle.layouts.proofs.components.read_components.Given as goal
 
-abbrev pub invariant-loop-at : goal.invariant-loop-at
-invariant-loop-at l = Found l.found l.at l.octets
+abbrev pub invariant-loop-rest : goal.invariant-loop-rest
+invariant-loop-rest l = Found l.found l.rest l.octets
 
-abbrev pub decreases-loop-at : goal.decreases-loop-at
-decreases-loop-at l = length l.octets - l.at
+abbrev pub decreases-loop-rest : goal.decreases-loop-rest
+decreases-loop-rest l = length l.rest

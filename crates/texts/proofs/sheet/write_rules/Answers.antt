@@ -1,5 +1,4 @@
 use Rattle.std.proofs.Common.{is_ok, ap}
-use Rattle.sheets.proofs.Writes.{nothing}
 use Rattle.texts.proofs.Sheeting.{lines_none, lines_more, lines_all}
 use Rattle.texts.proofs.sheet.write_rules.Goals as goal
 
@@ -9,7 +8,7 @@ loop-i-init g c plain = lines_none g.W.Write.write_str_gives c.args.f.now c.args
 pub loop-i-preserved : goal.loop-i-preserved
 loop-i-preserved g c plain =
     let so_far = c.loop-i.invariant plain in
-    lines_more g.W.Write.write_str_gives c.args.f.now c.args.rules.now c.loop-i.i-counter nothing c.loop-i.f c.write.new.self c.loop-i-test.true so_far
+    lines_more g.W.Write.write_str_gives c.args.f.now c.args.rules.now c.loop-i.i-counter _ c.loop-i.f c.write.new.self c.loop-i-test.true so_far
     (c.write.ensures.writes so_far.put.plain (ap is_ok c.in_ok-write.was))
 
 pub returns : goal.returns

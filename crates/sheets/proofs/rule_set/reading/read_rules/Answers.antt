@@ -1,43 +1,26 @@
-use Rattle.std.proofs.Common.{◌≡◌, length, drop, sym, ap, ◌∙◌, arith}
+use Rattle.std.proofs.Common.{sym, ap, ◌∙◌}
 use Rattle.std.proofs.lemmas.List.{take_rest}
 use Rattle.std.proofs.lemmas.Result.{err_from_is_err_and}
 use Rattle.terms.specs.Replies.{seen_as}
-use Rattle.layouts.specs.Precedence.{has}
-use Rattle.layouts.specs.Reading.{rule_from}
 use Rattle.layouts.specs.Rule.{ruling}
-use Rattle.sheets.proofs.Rows.{found_none, found_more, found_stop, found_surplus, found_all}
+use Rattle.sheets.proofs.Rows.{found_none, found_room, found_more, found_stop}
 use Rattle.sheets.proofs.rule_set.reading.read_rules.Goals as goal
-use Rattle.sheets.proofs.rule_set.reading.read_rules.Goals.{After-read_rule}
-
--- what was read at this turn
-read : (c : After-read_rule) → rule_from (has c.loop-i.met) (drop c.loop-i.at c.args.octets.now) ≡ seen_as ruling c.read_rule.result
-read c = sym (c.read_rule.ensures.value ∙ ap (rule_from (has c.loop-i.met)) (take_rest c.args.octets.now c.loop-i.at))
-
-pub loop-i-init : goal.loop-i-init
-loop-i-init c = found_none c.empty-table.result c.none-met.result c.args.count c.args.octets.now c.empty-table.ensures.count c.none-met.ensures
 
 pub returns-in_err-rule : goal.returns-in_err-rule
 returns-in_err-rule c =
-    let here = c.loop-i in
+    let here = c.loop in
     let p = err_from_is_err_and c.from_residual.result c.from_residual.ensures.1 in
     rw (p.1, p.2)
-    (sym (found_stop here.table here.met c.args.count here.i here.at c.args.octets.now c.loop-i-test.true here.invariant _
-    (read (goal.at.returns-in_err-rule c).After-read_rule ∙ ap (seen_as ruling) c.in_err-rule.was)))
+    (sym (found_stop here.rules here.met c.args.count here.counter here.rest.now c.args.octets.now c.loop-test.true here.invariant _
+    (sym c.read_rule.ensures.value ∙ ap (seen_as ruling) c.in_err-rule.was)))
 
-pub loop-i-preserved : goal.loop-i-preserved
-loop-i-preserved c =
-    let here = c.loop-i in
-    found_more here.table here.met c.args.count here.i here.at c.args.octets.now c.loop-i-test.true here.invariant _ _ _ _
-    (read (goal.at.loop-i-preserved c).After-read_rule ∙ ap (seen_as ruling) c.in_ok-rule.was)
-    (omega (arith, c.in_ok-rule.ensures.inside, ap length (take_rest c.args.octets.now here.at)))
-    c.push.ensures.after c.push.ensures.count c.insert.ensures
+pub loop-init : goal.loop-init
+loop-init c = found_none c.none-rules.result c.none-met.result c.args.count c.args.octets.now c.none-rules.ensures c.none-met.ensures
 
-pub returns-then-at-octets : goal.returns-then-at-octets
-returns-then-at-octets c =
-    let here = c.loop-i in
-    sym (found_surplus here.table here.met c.args.count here.i here.at c.args.octets.now (omega arith) here.invariant c.if-at-octets.true)
-
-pub returns : goal.returns
-returns c =
-    let here = c.loop-i in
-    sym (found_all here.table here.met c.args.count here.i here.at c.args.octets.now (omega arith) here.invariant c.if-at-octets.false)
+pub loop-preserved : goal.loop-preserved
+loop-preserved c =
+    let here = c.loop in
+    let ys = here.rest.now in
+    let push = found_room here.rules here.met c.args.count here.counter ys c.args.octets.now c.loop-test.true here.invariant _ _ c.push.new.self c.requires c.in_ok-push.ensures in
+    found_more here.rules here.met c.args.count here.counter ys c.args.octets.now c.loop-test.true here.invariant c.push.new.self c.insert.new.self _ _ _
+    (sym c.read_rule.ensures.value ∙ ap (seen_as ruling) c.in_ok-rule.was) push.1 c.insert.ensures (take_rest ys _)

@@ -1,25 +1,14 @@
-use Rattle.std.proofs.Common.{◌≡◌, ◌-◌, ◌≤◌, [], length, take, drop, Ok, sym, ap, ◌∙◌, arith}
+use Rattle.std.proofs.Common.{◌≡◌, ◌-◌, ◌≤◌, [], length, take, drop, sym, ap, ◌∙◌, arith}
 use Rattle.std.proofs.lemmas.Result.{err_from_is_err_and}
 use Rattle.octets.specs.Numbers.{Octets}
 use Rattle.octets.proofs.Numbers.{octets_take, octets_drop}
 use Rattle.terms.specs.Replies.{seen_as}
 use Rattle.sheets.specs.Reading.{rules_from, count_in, distance_in, heading_in}
 use Rattle.sheets.specs.Tables.{said}
-use Rattle.sheets.proofs.Refused.{count_refused, distance_refused, rules_refused, accepted}
-use Rattle.sheets.proofs.Trips.{lawful, rules_sound}
+use Rattle.sheets.proofs.Refused.{rules_refused}
+use Rattle.sheets.proofs.Trips.{rules_sound}
 use Rattle.sheets.proofs.rule_set.reading.read_within.Goals as goal
 use Rattle.sheets.proofs.rule_set.reading.read_within.Goals.{After-read_rules}
-
-pub returns-then-count-eq0 : goal.returns-then-count-eq0
-returns-then-count-eq0 c =
-    let e = sym (count_refused c.args.octets.now c.requires.least c.requires.most (rw c.from-count.ensures at c.then-count-eq0.either)) in
-    record { value = e; law = lawful c.args.octets.now _ (λ i. (c.type_inv.octets i).fits) e }
-
-pub returns-then-trailer-distance : goal.returns-then-trailer-distance
-returns-then-trailer-distance c =
-    let e = sym (distance_refused c.args.octets.now c.requires.least c.requires.most (λ z. c.if-count-eq0.false (c.from-count.ensures ∙ z))
-    (omega (arith, c.from-count.ensures)) (omega (arith, c.distance_in-distance.ensures))) in
-    record { value = e; law = lawful c.args.octets.now _ (λ i. (c.type_inv.octets i).fits) e }
 
 module _ (c : After-read_rules) where
   some : count_in c.args.octets.now ≡ 0 → ⊥
@@ -45,8 +34,7 @@ returns-in_err-table c =
     let b = (goal.at.returns-in_err-table c).After-read_rules in
     let xs = c.args.octets.now in
     let p = err_from_is_err_and c.from_residual.result c.from_residual.ensures.1 in
-    let e = sym (rules_refused xs c.requires.least c.requires.most (some b) (few b) (inside b) _ (read b ∙ ap (seen_as said) c.in_err-table.was)) in
-    rw (p.1, p.2) (record { value = e; law = lawful xs _ (λ i. (c.type_inv.octets i).fits) e })
+    rw (p.1, p.2) (sym (rules_refused xs c.requires.least c.requires.most (some b) (few b) (inside b) _ (read b ∙ ap (seen_as said) c.in_err-table.was)))
 
 pub invariant_of-result : goal.invariant_of-result
 invariant_of-result c =
@@ -58,12 +46,3 @@ invariant_of-result c =
       sound = rules_sound (count_in xs) (take (distance_in xs) (drop (heading_in xs) xs)) (said c.in_ok-table.table) (octets_take (distance_in xs) (drop (heading_in xs) xs) (octets_drop (heading_in xs) xs o))
           positive (few b) (read b ∙ ap (seen_as said) c.in_ok-table.was);
     }
-
-pub returns : goal.returns
-returns c =
-    let b = (goal.at.returns c).After-read_rules in
-    let xs = c.args.octets.now in
-    let heading : (length xs - 3) - c.distance_in-distance.result ≡ heading_in xs = ap (λ n. (length xs - 3) - n) c.distance_in-distance.ensures in
-    let e = sym (accepted xs c.requires.least c.requires.most (some b) (few b) (inside b) (said c.in_ok-table.table) (read b ∙ ap (seen_as said) c.in_ok-table.was)
-    ∙ ap (λ n. Ok (n, said c.in_ok-table.table)) (sym heading)) in
-    record { value = e; law = lawful xs _ (λ i. (c.type_inv.octets i).fits) e }
