@@ -57,6 +57,8 @@ pub(crate) fn read_descriptor(octets: &[u8]) -> Option<Descriptor>
     })
 }
 
+// The octet for the kind of mode; with that of its information it is the mode,
+// so it is no conversion by itself.
 fn mode_code(mode: Mode) -> u8
     ensures { result ≡ mode_code mode }
 {

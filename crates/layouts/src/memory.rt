@@ -52,6 +52,7 @@ impl<T: InOctets, const N: usize> InOctets for AtMost<T, N> {
     ghost octets = { λ items. flat_map T.octets (listed items) };
 
     fn place(&self, memory: &mut [u8], at: usize) -> usize {
+        // no `fold`, since a closure that writes the memory tells nothing of it
         let mut end = at;
         for item in self.as_slice() {
             end = item.place(memory, end);
@@ -76,6 +77,7 @@ pub(crate) fn size_of_all<T: Measured>(items: &[T]) -> usize
     ensures value { result ≡ length (flat_map T.octets items.now) }
     ensures bound { result ≤ T.most * length items.now }
 {
+    // no `sum`, of which it is not found that it fits
     let mut size = 0;
     for item in items {
         size += item.size();

@@ -1,4 +1,4 @@
-// A set of precedences.
+// A set of precedences: a mark for each, since it may need no heap.
 ghost use Rattle.std.specs.Prelude.{◌≡◌, ℕ, ◌||◌, ◌==◌};
 ghost use Rattle.layouts.specs.Precedence.{has, empty};
 

@@ -18,7 +18,8 @@ pub trait Item: Copy {
     const FULL: Refusal;
 }
 
-// At most N items in their order: the first `count` of the array.
+// At most N items in their order: the first `count` of the array, since nothing
+// that is read or kept here may need a heap.
 #[derive(Clone, Copy, Debug)]
 pub struct AtMost<T, const N: usize> {
     pub array: [T; N],

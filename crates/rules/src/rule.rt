@@ -19,7 +19,7 @@ pub struct Rule {
 }
 
 // Rules are equal where they say the same; what lies behind the count of
-// components is nothing that they say.
+// components is nothing that they say, so a derive would compare too much.
 impl PartialEq for Rule {
     ghost eq = { on saying same_rule };
 

@@ -2,3 +2,4 @@ pub mod Accesses
 pub mod Pairs
 pub mod Refusals
 pub mod Replies
+pub mod Same

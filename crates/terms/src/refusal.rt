@@ -1,12 +1,10 @@
 // The numbered refusals.
-ghost use Rattle.std.specs.Prelude.{◌≡◌, ◌↔◌, ◌==◌, Some, IsTrue};
+ghost use Rattle.std.specs.Prelude.{◌≡◌, Some};
 ghost use Rattle.terms.specs.Refusals.{number_of, words_of};
-ghost use Rattle.std.specs.Cmp.Rules.{comparing};
-ghost use Rattle.std.proofs.Common.{rules};
 
 use std::fmt;
 
-#[derive(Clone, Copy, Debug)]
+#[derive(Clone, Copy, Debug, PartialEq, Eq)]
 pub enum Refusal {
     SheetSize,
     RuleCount,
@@ -34,12 +32,14 @@ pub enum Refusal {
 }
 
 impl Refusal {
+    // A method and no `From`: a refusal is no octet, and is only told by its number.
     pub fn number(self) -> u8
         ensures { result ≡ number_of self }
     {
         self as u8 + 1
     }
 
+    // The texts alone, so that `{}` stays one line.
     fn words(self) -> &'static str
         ensures { result.now ≡ words_of self }
     {
@@ -70,23 +70,6 @@ impl Refusal {
             Refusal::AnswersMissing => "an answer is missing",
         }
     }
-}
-
-impl PartialEq for Refusal {
-    ghost eq = { λ x y. number_of x == number_of y };
-
-    ghost laws = { Prim.search (comparing, rules) };
-
-    fn eq(&self, other: &Refusal) -> bool
-        ensures value { result ≡ (number_of self.now == number_of other.now) }
-        ensures decides { IsTrue result ↔ (self.now ≡ other.now) }
-    {
-        self.number() == other.number()
-    }
-}
-
-impl Eq for Refusal {
-    ghost laws = { Prim.search (comparing, rules) };
 }
 
 impl fmt::Display for Refusal {

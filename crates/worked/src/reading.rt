@@ -7,133 +7,183 @@ mod tests {
     use std::alloc::Global;
     use std::process::Abort;
     use std::test::Fail;
-    use terms::Access;
+    use terms::{Access, Refusal};
 
-    // The refusal's number, or 0 where the sheet is accepted. Reading and rewriting agree; an accepted
+    // Whether the sheet is accepted, or how it is refused. Reading and rewriting agree; an accepted
     // sheet is written back to the same octets, a refused one leaves the memory as it was.
-    fn answer(rt: &impl Abort, heap: Global, sheet: &[u8]) -> Result<u8, Fail> {
+    fn answer(rt: &impl Abort, heap: Global, sheet: &[u8]) -> Result<Result<(), Refusal>, Fail> {
         let mut memory = vec![in heap; 0xEEu8; sheet.len()]?;
         let untouched = vec![in heap; 0xEEu8; sheet.len()]?;
-        let again = match rewrite(sheet, memory.as_mut_slice()) {
-            Ok(_) => 0,
-            Err(refusal) => refusal.number(),
-        };
-        let number = match read(sheet) {
-            Ok(_) => 0,
-            Err(refusal) => refusal.number(),
-        };
-        assert_eq!(rt; again, number);
-        if number == 0 {
+        let again = rewrite(sheet, memory.as_mut_slice()).map(|_| ());
+        let found = read(sheet).map(|_| ());
+        assert_eq!(rt; again, found);
+        if found.is_ok() {
             assert!(rt; memory.as_slice() == sheet);
         } else {
             assert!(rt; memory.as_slice() == untouched.as_slice());
         }
-        Ok(number)
+        Ok(found)
     }
 
-    const SHEETS: [(&str, &str, u8); 34] = [
-        ("no octet", "", 1),
-        ("two octets", "0100", 1),
-        ("three octets with a count of 0", "000000", 2),
-        ("three octets with a distance past the first", "010001", 3),
-        ("three octets with a distance of 0", "010000", 4),
-        ("one rule", "0008050001010403030601000A", 0),
+    const SHEETS: [(&str, &str, Result<(), Refusal>); 34] = [
+        ("no octet", "", Err(Refusal::SheetSize)),
+        ("two octets", "0100", Err(Refusal::SheetSize)),
+        (
+            "three octets with a count of 0",
+            "000000",
+            Err(Refusal::RuleCount),
+        ),
+        (
+            "three octets with a distance past the first",
+            "010001",
+            Err(Refusal::Distance),
+        ),
+        (
+            "three octets with a distance of 0",
+            "010000",
+            Err(Refusal::Frame),
+        ),
+        ("one rule", "0008050001010403030601000A", Ok(())),
         (
             "one rule under a heading",
             "48490008050001010403030601000A",
-            0,
+            Ok(()),
         ),
-        ("a distance one too far", "0008050001010403030601000B", 3),
+        (
+            "a distance one too far",
+            "0008050001010403030601000B",
+            Err(Refusal::Distance),
+        ),
         (
             "a distance of 0 behind a rule",
             "00080500010104030306010000",
-            4,
+            Err(Refusal::Frame),
         ),
-        ("smallest delay", "000705000101030302010009", 0),
+        ("smallest delay", "000705000101030302010009", Ok(())),
         (
             "two rules",
             "0008050001010403030600080600010104030306020014",
-            0,
+            Ok(()),
         ),
         (
             "two rules counted and one there",
             "0008050001010403030602000A",
-            4,
+            Err(Refusal::Frame),
         ),
-        ("no rule counted", "0008050001010403030600000A", 2),
+        (
+            "no rule counted",
+            "0008050001010403030600000A",
+            Err(Refusal::RuleCount),
+        ),
         (
             "128 rules counted and one there",
             "0008050001010403030680000A",
-            4,
+            Err(Refusal::Frame),
         ),
-        ("129 rules counted", "0008050001010403030681000A", 2),
-        ("the size before the count", "0000", 1),
-        ("the count before the distance", "00FFFF", 2),
-        ("one octet for a rule's length", "00010001", 4),
-        ("a rule of two octets", "00020500010004", 4),
-        ("a rule past the trailer", "0009050001010403030601000A", 4),
-        ("a descriptor left two octets", "0006050001010403010008", 4),
+        (
+            "129 rules counted",
+            "0008050001010403030681000A",
+            Err(Refusal::RuleCount),
+        ),
+        ("the size before the count", "0000", Err(Refusal::SheetSize)),
+        (
+            "the count before the distance",
+            "00FFFF",
+            Err(Refusal::RuleCount),
+        ),
+        (
+            "one octet for a rule's length",
+            "00010001",
+            Err(Refusal::Frame),
+        ),
+        (
+            "a rule of two octets",
+            "00020500010004",
+            Err(Refusal::Frame),
+        ),
+        (
+            "a rule past the trailer",
+            "0009050001010403030601000A",
+            Err(Refusal::Frame),
+        ),
+        (
+            "a descriptor left two octets",
+            "0006050001010403010008",
+            Err(Refusal::Frame),
+        ),
         (
             "a descriptor left five octets",
             "000905000101040303060001000B",
-            4,
+            Err(Refusal::Frame),
         ),
-        ("components past the rule", "000805FFFF010403030601000A", 4),
+        (
+            "components past the rule",
+            "000805FFFF010403030601000A",
+            Err(Refusal::Frame),
+        ),
         (
             "the frame before the component's type",
             "0006050001020403010008",
-            4,
+            Err(Refusal::Frame),
         ),
         (
             "an unknown type of component",
             "0008050001020403030601000A",
-            5,
+            Err(Refusal::ComponentType),
         ),
-        ("match-all twice", "000905000201010403030601000B", 6),
-        ("an unknown mode", "0008050001010403050601000A", 8),
+        (
+            "match-all twice",
+            "000905000201010403030601000B",
+            Err(Refusal::Components),
+        ),
+        (
+            "an unknown mode",
+            "0008050001010403050601000A",
+            Err(Refusal::Descriptor),
+        ),
         (
             "the component before the descriptor",
             "0008050001020403050601000A",
-            5,
+            Err(Refusal::ComponentType),
         ),
         (
             "one precedence in two rules",
             "0008050001010403030600080500010104030306020014",
-            9,
+            Err(Refusal::Precedence),
         ),
         (
             "the descriptor before the precedence",
             "0008050001010403030600080500010104030506020014",
-            8,
+            Err(Refusal::Descriptor),
         ),
         (
             "the frame before the precedence",
             "0008050001010403030600090500010104030306020014",
-            4,
+            Err(Refusal::Frame),
         ),
         (
             "the first rule before the second",
             "0008050001010403050600080500010204030306020014",
-            8,
+            Err(Refusal::Descriptor),
         ),
         (
             "an octet before the trailer",
             "000805000101040303060001000B",
-            10,
+            Err(Refusal::Surplus),
         ),
         (
             "the precedence before the octet",
             "000805000101040303060008050001010403030600020015",
-            9,
+            Err(Refusal::Precedence),
         ),
     ];
 
     #[test]
     fn sheets_by_their_octets(rt: HostRuntime) -> Result<(), Fail> {
         let heap = rt.alloc();
-        for (what, text, number) in SHEETS {
+        for (what, text, wanted) in SHEETS {
             let sheet = hex(heap, text)?;
-            assert_eq!(rt; answer(&rt, heap, sheet.as_slice())?, number, "{}", what);
+            assert_eq!(rt; answer(&rt, heap, sheet.as_slice())?, wanted, "{}", what);
         }
         Ok(())
     }
@@ -141,96 +191,156 @@ mod tests {
     const SHARE_50: &str = "04030306";
 
     // The components of a rule.
-    const COMPONENTS: [(&str, &str, u8); 47] = [
-        ("match all", "01", 0),
-        ("IPv4", "10C0000200FFFFFF00", 0),
+    const COMPONENTS: [(&str, &str, Result<(), Refusal>); 47] = [
+        ("match all", "01", Ok(())),
+        ("IPv4", "10C0000200FFFFFF00", Ok(())),
         (
             "IPv6 with a prefix of 0 bits",
             "2120010DB800000000000000000000000000",
-            0,
+            Ok(()),
         ),
         (
             "IPv6 with a prefix of 128 bits",
             "2120010DB800000000000000000000000080",
-            0,
+            Ok(()),
         ),
-        ("protocol", "3006", 0),
-        ("port", "5001BB", 0),
-        ("ports, low below high", "511F401F90", 0),
-        ("ports, low equal to high", "5101BB01BB", 0),
-        ("security parameter index", "6000C0FFEE", 0),
-        ("type of service", "70B8FC", 0),
-        ("flow label of 20 bits", "800FFFFF", 0),
+        ("protocol", "3006", Ok(())),
+        ("port", "5001BB", Ok(())),
+        ("ports, low below high", "511F401F90", Ok(())),
+        ("ports, low equal to high", "5101BB01BB", Ok(())),
+        ("security parameter index", "6000C0FFEE", Ok(())),
+        ("type of service", "70B8FC", Ok(())),
+        ("flow label of 20 bits", "800FFFFF", Ok(())),
         (
             "all types but match-all",
             "10C0000200FFFFFF002120010DB8000000000000000000000000203006500050510050005160000001007028FC80000001",
-            0,
+            Ok(()),
         ),
-        ("no component", "", 6),
-        ("IPv4 cut", "10C0000200FFFFFF", 4),
-        ("IPv6 cut", "2120010DB8000000000000000000000000", 4),
-        ("protocol cut", "30", 4),
-        ("port cut", "5001", 4),
-        ("ports cut", "511F401F", 4),
-        ("security parameter index cut", "6000C0FF", 4),
-        ("type of service cut", "70B8", 4),
-        ("flow label cut", "800FFF", 4),
-        ("the second component cut", "300650", 4),
-        ("type 00", "00", 5),
-        ("type 02", "02", 5),
-        ("type 11", "11C0000200FFFFFF00", 5),
-        ("type 20", "2020010DB800000000000000000000000000", 5),
-        ("type 52", "521F401F90", 5),
-        ("type FF", "FF", 5),
-        ("an unknown type behind a known one", "300631", 5),
-        ("the type before the room", "3102", 5),
+        ("no component", "", Err(Refusal::Components)),
+        ("IPv4 cut", "10C0000200FFFFFF", Err(Refusal::Frame)),
+        (
+            "IPv6 cut",
+            "2120010DB8000000000000000000000000",
+            Err(Refusal::Frame),
+        ),
+        ("protocol cut", "30", Err(Refusal::Frame)),
+        ("port cut", "5001", Err(Refusal::Frame)),
+        ("ports cut", "511F401F", Err(Refusal::Frame)),
+        (
+            "security parameter index cut",
+            "6000C0FF",
+            Err(Refusal::Frame),
+        ),
+        ("type of service cut", "70B8", Err(Refusal::Frame)),
+        ("flow label cut", "800FFF", Err(Refusal::Frame)),
+        ("the second component cut", "300650", Err(Refusal::Frame)),
+        ("type 00", "00", Err(Refusal::ComponentType)),
+        ("type 02", "02", Err(Refusal::ComponentType)),
+        ("type 11", "11C0000200FFFFFF00", Err(Refusal::ComponentType)),
+        (
+            "type 20",
+            "2020010DB800000000000000000000000000",
+            Err(Refusal::ComponentType),
+        ),
+        ("type 52", "521F401F90", Err(Refusal::ComponentType)),
+        ("type FF", "FF", Err(Refusal::ComponentType)),
+        (
+            "an unknown type behind a known one",
+            "300631",
+            Err(Refusal::ComponentType),
+        ),
+        (
+            "the type before the room",
+            "3102",
+            Err(Refusal::ComponentType),
+        ),
         (
             "a prefix of 129 bits",
             "2120010DB800000000000000000000000081",
-            7,
+            Err(Refusal::Value),
         ),
-        ("low above high", "5101BC01BB", 7),
-        ("flow label with bit 20", "80100000", 7),
-        ("flow label with bit 23", "80800000", 7),
-        ("a type twice", "30063011", 6),
-        ("a type twice, one between", "30065000503011", 6),
-        ("match-all twice", "0101", 6),
-        ("match-all before another", "013006", 6),
-        ("match-all behind another", "300601", 6),
-        ("the room before the clash", "300630", 4),
-        ("the clash before the value", "8000000180100000", 6),
-        ("a clash before a later value", "3006301180100000", 6),
-        ("a clash before a later type", "3006301102", 6),
-        ("a value before a later clash", "8010000030063011", 7),
-        ("a value before a later type", "8010000002", 7),
-        ("a type before a later value", "0280100000", 5),
-        ("a cut before a descriptor that is whole", "5001BB60", 4),
+        ("low above high", "5101BC01BB", Err(Refusal::Value)),
+        ("flow label with bit 20", "80100000", Err(Refusal::Value)),
+        ("flow label with bit 23", "80800000", Err(Refusal::Value)),
+        ("a type twice", "30063011", Err(Refusal::Components)),
+        (
+            "a type twice, one between",
+            "30065000503011",
+            Err(Refusal::Components),
+        ),
+        ("match-all twice", "0101", Err(Refusal::Components)),
+        (
+            "match-all before another",
+            "013006",
+            Err(Refusal::Components),
+        ),
+        (
+            "match-all behind another",
+            "300601",
+            Err(Refusal::Components),
+        ),
+        ("the room before the clash", "300630", Err(Refusal::Frame)),
+        (
+            "the clash before the value",
+            "8000000180100000",
+            Err(Refusal::Components),
+        ),
+        (
+            "a clash before a later value",
+            "3006301180100000",
+            Err(Refusal::Components),
+        ),
+        (
+            "a clash before a later type",
+            "3006301102",
+            Err(Refusal::Components),
+        ),
+        (
+            "a value before a later clash",
+            "8010000030063011",
+            Err(Refusal::Value),
+        ),
+        (
+            "a value before a later type",
+            "8010000002",
+            Err(Refusal::Value),
+        ),
+        (
+            "a type before a later value",
+            "0280100000",
+            Err(Refusal::ComponentType),
+        ),
+        (
+            "a cut before a descriptor that is whole",
+            "5001BB60",
+            Err(Refusal::Frame),
+        ),
     ];
 
     #[test]
     fn components_by_their_octets(rt: HostRuntime) -> Result<(), Fail> {
         let heap = rt.alloc();
-        for (what, text, number) in COMPONENTS {
+        for (what, text, wanted) in COMPONENTS {
             let sheet = sheet_of(heap, text, SHARE_50)?;
-            assert_eq!(rt; answer(&rt, heap, sheet.as_slice())?, number, "{}", what);
+            assert_eq!(rt; answer(&rt, heap, sheet.as_slice())?, wanted, "{}", what);
         }
         Ok(())
     }
 
     // Components before a descriptor of an unknown mode.
-    const BEFORE_DESCRIPTOR: [(&str, &str, u8); 4] = [
-        ("no component", "", 6),
-        ("a component cut off", "5001", 4),
-        ("a value out of range", "5101BC01BB", 7),
-        ("a good component", "01", 8),
+    const BEFORE_DESCRIPTOR: [(&str, &str, Result<(), Refusal>); 4] = [
+        ("no component", "", Err(Refusal::Components)),
+        ("a component cut off", "5001", Err(Refusal::Frame)),
+        ("a value out of range", "5101BC01BB", Err(Refusal::Value)),
+        ("a good component", "01", Err(Refusal::Descriptor)),
     ];
 
     #[test]
     fn components_before_the_descriptor(rt: HostRuntime) -> Result<(), Fail> {
         let heap = rt.alloc();
-        for (what, text, number) in BEFORE_DESCRIPTOR {
+        for (what, text, wanted) in BEFORE_DESCRIPTOR {
             let sheet = sheet_of(heap, text, "04030506")?;
-            assert_eq!(rt; answer(&rt, heap, sheet.as_slice())?, number, "{}", what);
+            assert_eq!(rt; answer(&rt, heap, sheet.as_slice())?, wanted, "{}", what);
         }
         Ok(())
     }
@@ -286,42 +396,66 @@ mod tests {
     }
 
     // The descriptor of a match-all rule.
-    const DESCRIPTORS: [(&str, &str, u8); 27] = [
-        ("smallest delay", "030302", 0),
-        ("smallest delay with information", "04030201", 8),
-        ("load balancing with no information", "030303", 8),
-        ("k of 0", "04030300", 8),
-        ("k of 1", "04030301", 0),
-        ("k of 11", "0403030B", 0),
-        ("k of 12", "0403030C", 8),
-        ("active-standby 0", "04030100", 8),
-        ("active-standby 1", "04030101", 0),
-        ("active-standby 4", "04030104", 0),
-        ("active-standby 5", "04030105", 8),
-        ("active-standby with no information", "030301", 8),
-        ("priority 0", "04030400", 8),
-        ("priority 1", "04030401", 0),
-        ("priority 2", "04030402", 0),
-        ("priority 3", "04030403", 8),
-        ("mode 0", "04030001", 8),
-        ("mode 5", "04030501", 8),
-        ("functionality 0", "04000306", 8),
-        ("functionality 1", "04010306", 0),
-        ("functionality 2", "04020306", 0),
-        ("functionality 4", "04040306", 8),
-        ("a length of 3 over four octets", "03030306", 8),
-        ("a length of 5 over four octets", "05030306", 8),
-        ("a length of 4 over three octets", "040302", 8),
-        ("a length of 0", "00030306", 8),
-        ("two octets", "0403", 4),
+    const DESCRIPTORS: [(&str, &str, Result<(), Refusal>); 27] = [
+        ("smallest delay", "030302", Ok(())),
+        (
+            "smallest delay with information",
+            "04030201",
+            Err(Refusal::Descriptor),
+        ),
+        (
+            "load balancing with no information",
+            "030303",
+            Err(Refusal::Descriptor),
+        ),
+        ("k of 0", "04030300", Err(Refusal::Descriptor)),
+        ("k of 1", "04030301", Ok(())),
+        ("k of 11", "0403030B", Ok(())),
+        ("k of 12", "0403030C", Err(Refusal::Descriptor)),
+        ("active-standby 0", "04030100", Err(Refusal::Descriptor)),
+        ("active-standby 1", "04030101", Ok(())),
+        ("active-standby 4", "04030104", Ok(())),
+        ("active-standby 5", "04030105", Err(Refusal::Descriptor)),
+        (
+            "active-standby with no information",
+            "030301",
+            Err(Refusal::Descriptor),
+        ),
+        ("priority 0", "04030400", Err(Refusal::Descriptor)),
+        ("priority 1", "04030401", Ok(())),
+        ("priority 2", "04030402", Ok(())),
+        ("priority 3", "04030403", Err(Refusal::Descriptor)),
+        ("mode 0", "04030001", Err(Refusal::Descriptor)),
+        ("mode 5", "04030501", Err(Refusal::Descriptor)),
+        ("functionality 0", "04000306", Err(Refusal::Descriptor)),
+        ("functionality 1", "04010306", Ok(())),
+        ("functionality 2", "04020306", Ok(())),
+        ("functionality 4", "04040306", Err(Refusal::Descriptor)),
+        (
+            "a length of 3 over four octets",
+            "03030306",
+            Err(Refusal::Descriptor),
+        ),
+        (
+            "a length of 5 over four octets",
+            "05030306",
+            Err(Refusal::Descriptor),
+        ),
+        (
+            "a length of 4 over three octets",
+            "040302",
+            Err(Refusal::Descriptor),
+        ),
+        ("a length of 0", "00030306", Err(Refusal::Descriptor)),
+        ("two octets", "0403", Err(Refusal::Frame)),
     ];
 
     #[test]
     fn descriptors_by_their_octets(rt: HostRuntime) -> Result<(), Fail> {
         let heap = rt.alloc();
-        for (what, text, number) in DESCRIPTORS {
+        for (what, text, wanted) in DESCRIPTORS {
             let sheet = sheet_of(heap, "01", text)?;
-            assert_eq!(rt; answer(&rt, heap, sheet.as_slice())?, number, "{}", what);
+            assert_eq!(rt; answer(&rt, heap, sheet.as_slice())?, wanted, "{}", what);
         }
         Ok(())
     }
@@ -400,35 +534,40 @@ mod tests {
     }
 
     // How many rules, the precedence of the last, and the answer.
-    const MANY: [(u8, u8, u8); 6] = [
-        (1, 0, 0),
-        (2, 0, 9),
-        (128, 127, 0),
-        (128, 0, 9),
-        (128, 255, 0),
-        (129, 128, 2),
+    const MANY: [(u8, u8, Result<(), Refusal>); 6] = [
+        (1, 0, Ok(())),
+        (2, 0, Err(Refusal::Precedence)),
+        (128, 127, Ok(())),
+        (128, 0, Err(Refusal::Precedence)),
+        (128, 255, Ok(())),
+        (129, 128, Err(Refusal::RuleCount)),
     ];
 
     #[test]
     fn sheets_by_their_count(rt: HostRuntime) -> Result<(), Fail> {
         let heap = rt.alloc();
-        for (count, last, number) in MANY {
+        for (count, last, wanted) in MANY {
             let sheet = many_rules(heap, count, last)?;
-            assert_eq!(rt; answer(&rt, heap, sheet.as_slice())?, number, "{}", count);
+            assert_eq!(rt; answer(&rt, heap, sheet.as_slice())?, wanted, "{}", count);
         }
         Ok(())
     }
 
     // How many octets of heading, and the answer: 13 octets follow it.
-    const HEADINGS: [(usize, u8); 4] = [(0, 0), (1000, 0), (16371, 0), (16372, 1)];
+    const HEADINGS: [(usize, Result<(), Refusal>); 4] = [
+        (0, Ok(())),
+        (1000, Ok(())),
+        (16371, Ok(())),
+        (16372, Err(Refusal::SheetSize)),
+    ];
 
     #[test]
     fn sheets_by_their_heading(rt: HostRuntime) -> Result<(), Fail> {
         let heap = rt.alloc();
-        for (length, number) in HEADINGS {
+        for (length, wanted) in HEADINGS {
             let sheet = under_heading(heap, length)?;
-            assert_eq!(rt; answer(&rt, heap, sheet.as_slice())?, number, "{}", length);
-            if number == 0 {
+            assert_eq!(rt; answer(&rt, heap, sheet.as_slice())?, wanted, "{}", length);
+            if wanted.is_ok() {
                 assert_eq!(rt; read(sheet.as_slice())?.heading, length);
             }
         }

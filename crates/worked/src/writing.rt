@@ -4,17 +4,18 @@ mod tests {
     use crate::making::examples::{ONE_RULE, hex};
     use sheets::{read, write};
     use std::test::Fail;
+    use terms::Refusal;
 
-    // Octets of heading, octets of memory, and the refusal's number.
-    const ROOMS: [(usize, usize, u8); 8] = [
-        (0, 12, 11),
-        (0, 13, 0),
-        (0, 20, 0),
-        (2, 14, 11),
-        (2, 15, 0),
-        (16371, 16384, 0),
-        (16371, 16383, 11),
-        (16372, 17000, 11),
+    // Octets of heading, octets of memory, and the answer.
+    const ROOMS: [(usize, usize, Result<(), Refusal>); 8] = [
+        (0, 12, Err(Refusal::Memory)),
+        (0, 13, Ok(())),
+        (0, 20, Ok(())),
+        (2, 14, Err(Refusal::Memory)),
+        (2, 15, Ok(())),
+        (16371, 16384, Ok(())),
+        (16371, 16383, Err(Refusal::Memory)),
+        (16372, 17000, Err(Refusal::Memory)),
     ];
 
     #[test]
@@ -22,22 +23,17 @@ mod tests {
         let heap = rt.alloc();
         let sheet = hex(heap, ONE_RULE)?;
         let found = read(sheet.as_slice())?;
-        for (length, room, number) in ROOMS {
+        for (length, room, fits) in ROOMS {
             let heading = vec![in heap; 0x48u8; length]?;
             let mut memory = vec![in heap; 0xEEu8; room]?;
             let mut wanted = Vec::new(heap);
-            match write(&found.rules, heading.as_slice(), memory.as_mut_slice()) {
-                Ok(size) => {
-                    assert_eq!(rt; number, 0, "{}", room);
-                    assert_eq!(rt; size, heading.len() + 13);
-                    wanted.extend_from_slice(heading.as_slice())?;
-                    wanted.extend_from_slice(sheet.as_slice())?;
-                }
-                Err(refusal) => assert_eq!(rt; refusal.number(), number, "{}", room),
+            let answer = write(&found.rules, heading.as_slice(), memory.as_mut_slice());
+            assert_eq!(rt; answer, fits.map(|_| heading.len() + 13), "{}", room);
+            if fits.is_ok() {
+                wanted.extend_from_slice(heading.as_slice())?;
+                wanted.extend_from_slice(sheet.as_slice())?;
             }
-            for _ in wanted.len()..room {
-                wanted.push(0xEE)?;
-            }
+            wanted.resize(room, 0xEE)?;
             assert!(rt; memory.as_slice() == wanted.as_slice(), "{}", room);
         }
         Ok(())
@@ -53,7 +49,7 @@ mod tests {
         for position in [2, 127, 128, usize::MAX] {
             match found.rules.rule(position) {
                 Ok(_) => return Err(Fail::new("a rule where there is none")),
-                Err(refusal) => assert_eq!(rt; refusal.number(), 18, "{}", position),
+                Err(refusal) => assert_eq!(rt; refusal, Refusal::Unknown, "{}", position),
             }
         }
         Ok(())

@@ -28,7 +28,8 @@ impl RuleSet {
     }
 }
 
-// Sets are equal where they say the same rules in the same order.
+// Sets are equal where they say the same rules in the same order; a derive
+// would compare the places behind the last rule too.
 impl PartialEq for RuleSet {
     ghost eq = { on rules_of (pointwise same_rule) };
 
