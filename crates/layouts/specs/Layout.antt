@@ -57,7 +57,3 @@ rule_body r = r.precedence ∷ (be 2 (length (components_octets r.components)) +
 
 abbrev pub rule_octets : Said → List ℕ
 rule_octets r = be 2 (length (rule_body r)) ++ rule_body r
-
--- one rule behind the other
-abbrev pub rules_octets : List Said → List ℕ
-rules_octets rs = flat_map rule_octets rs

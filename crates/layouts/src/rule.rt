@@ -1,13 +1,13 @@
 // One rule in octets, and rules one behind the other.
-ghost use Rattle.std.specs.Prelude.{◌≡◌, ◌+◌, ◌≤◌, map, length, IfOk, Ok};
+ghost use Rattle.std.specs.Prelude.{◌≡◌, ◌+◌, ◌≤◌, length, IfOk, Ok};
 ghost use Rattle.terms.specs.Replies.{seen_as};
 ghost use Rattle.rules.specs.Lists.{listed};
 ghost use Rattle.rules.specs.Rules.{saying};
-ghost use Rattle.layouts.specs.Layout.{rule_body, rule_octets, rules_octets};
+ghost use Rattle.layouts.specs.Layout.{rule_body, rule_octets};
 ghost use Rattle.layouts.specs.Memory.{Writes};
 ghost use Rattle.layouts.specs.Precedence.{has};
 ghost use Rattle.layouts.specs.Reading.{frame_from, rule_from};
-ghost use Rattle.layouts.specs.Rule.{framing, ruling};
+ghost use Rattle.layouts.specs.Rule.{framing, ruling, rules_octets};
 
 use crate::components::read_components;
 use crate::descriptors::{descriptor_size, read_descriptor};
@@ -134,7 +134,7 @@ pub fn write_rule(rule: &Rule, memory: &mut [u8], at: usize) -> Result<usize, Re
 
 // How many octets the rules have.
 pub fn rules_size(rules: &Rules) -> usize
-    ensures value { result ≡ length (rules_octets (map saying (listed rules.now))) }
+    ensures value { result ≡ length (rules_octets (listed rules.now)) }
     ensures bound { result ≤ 19584 }
 {
     size_of_all(rules.as_slice())
@@ -142,7 +142,7 @@ pub fn rules_size(rules: &Rules) -> usize
 
 // Writes the rules into the memory from a place on, and gives the place behind them.
 pub fn write_rules(rules: &Rules, memory: &mut [u8], at: usize) -> Result<usize, Refusal>
-    ensures { Writes at (rules_octets (map saying (listed rules.now))) memory.old result memory.new }
+    ensures { Writes at (rules_octets (listed rules.now)) memory.old result memory.new }
 {
     write(rules, rules_size(rules), memory, at)
 }

@@ -10,11 +10,11 @@ use Rattle.terms.specs.declared.refusal.Refusal.TheVariants as refusal
 use Rattle.terms.proofs.Replies.{after_ok, after_inv, refuse_not, refuse_inv}
 use Rattle.rules.specs.Rules.{Said, elem, every, distinct, sound_rule, sound}
 use Rattle.rules.proofs.Sound.{eqb_flip, distinct_push}
-use Rattle.layouts.specs.Layout.{rule_octets, rules_octets}
+use Rattle.layouts.specs.Layout.{rule_octets}
 use Rattle.layouts.specs.Reading.{rule_from}
 use Rattle.layouts.proofs.RuleTrips.{rule_written, rule_read}
 use Rattle.sheets.specs.Law.{Written, Lawful}
-use Rattle.sheets.specs.Layout.{trailer, sheet_octets}
+use Rattle.sheets.specs.Layout.{rules_octets, trailer, sheet_octets}
 use Rattle.sheets.specs.Reading.{precedences, rules_from, count_in, distance_in, heading_in, sheet_from}
 
 -- ---- rules in a row

@@ -1,14 +1,13 @@
 -- Writing rules and sheets.
-use Rattle.std.proofs.Common.{◌≡◌, ℕ, ◌+◌, ◌≤◌, Bool, true, ◌&&◌, leb, List, ◌++◌, length, take, drop, IfOk, Ok, Err, MatchBool, Result, sym, refl, ap, ◌∙◌, subst, zero-add, arith, length-append}
+use Rattle.std.proofs.Common.{◌≡◌, ℕ, ◌+◌, ◌≤◌, Bool, true, ◌&&◌, leb, List, ◌++◌, length, take, drop, IfOk, Ok, MatchBool, Result, sym, refl, ap, ◌∙◌, subst, zero-add, arith, length-append}
 use Rattle.std.proofs.lemmas.List.{take_at}
 use Rattle.std.proofs.lemmas.Bool.{and_from, le-leb}
 use Rattle.std.proofs.lemmas.Bool.Decides.{when_true}
 use Rattle.terms.specs.declared.refusal.Refusal.{Refusal}
 use Rattle.rules.specs.Rules.{Said, sound}
-use Rattle.layouts.specs.Layout.{rules_octets}
 use Rattle.layouts.specs.Memory as memory
 use Rattle.layouts.proofs.Writes.{written_three, length-written}
-use Rattle.sheets.specs.Layout.{trailer, sheet_octets}
+use Rattle.sheets.specs.Layout.{rules_octets, trailer, sheet_octets}
 use Rattle.sheets.specs.Reading.{sheet_from}
 use Rattle.sheets.specs.Writing.{Writes}
 use Rattle.sheets.proofs.Trips.{sheet_written}
@@ -16,9 +15,6 @@ use Rattle.sheets.proofs.Trips.{sheet_written}
 -- where there is room, octets are written
 pub writes_ok : (i : ℕ) (xs m : List ℕ) (r : Result ℕ Refusal) (m' : List ℕ) → i + length xs ≤ length m → memory.Writes i xs m r m' → (r ≡ Ok (i + length xs)) × (m' ≡ memory.written i xs m)
 writes_ok i xs m r m' room w = when_true _ _ (le-leb (i + length xs) (length m) room) w
-
-pub no_refusal : {r : Result ℕ Refusal} {n : ℕ} {e : Refusal} → r ≡ Ok n → r ≡ Err e → ⊥
-no_refusal p q = let z : ◌≡◌ {A = ℕ} 0 1 = cc in omega arith
 
 pub same_ok : {r : Result ℕ Refusal} {n k : ℕ} → r ≡ Ok n → r ≡ Ok k → k ≡ n
 same_ok p q = cc

@@ -1,8 +1,12 @@
 -- How a sheet is written.
 use Rattle.std.specs.Prelude.{ℕ, List, ◌∷◌, ◌++◌, length}
+use Rattle.std.specs.List.{flat_map}
 use Rattle.octets.specs.Numbers.{be}
 use Rattle.rules.specs.Rules.{Said}
-use Rattle.layouts.specs.Layout.{rules_octets}
+use Rattle.layouts.specs.Layout.{rule_octets}
+
+abbrev pub rules_octets : List Said → List ℕ
+rules_octets rs = flat_map rule_octets rs
 
 -- the trailer: how many rules there are, and how many octets they take
 abbrev pub trailer : List Said → List ℕ

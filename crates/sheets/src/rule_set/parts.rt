@@ -1,5 +1,5 @@
 // The rules of a set.
-ghost use Rattle.std.specs.Prelude.{◌≡◌, ◌≤◌, ◌↔◌, map, length, IsTrue};
+ghost use Rattle.std.specs.Prelude.{◌≡◌, ◌≤◌, ◌↔◌, map, length, Decides, IsTrue};
 ghost use Rattle.std.specs.Cmp.{on_equiv, partial_equiv_from_equiv};
 ghost use Rattle.std.specs.Cmp.Lexicographic.{lists_equiv, pointwise};
 ghost use Rattle.std.specs.Ordering.{on};
@@ -28,6 +28,13 @@ impl RuleSet {
     }
 }
 
+fn say_the_same(left: &[Rule], right: &[Rule]) -> bool
+    ensures value { result ≡ pointwise same_rule (map saying left.now) (map saying right.now) }
+    ensures decides { Decides result (map saying left.now ≡ map saying right.now) }
+{
+    left == right
+}
+
 // Sets are equal where they say the same rules in the same order; a derive
 // would compare the places behind the last rule too.
 impl PartialEq for RuleSet {
@@ -39,7 +46,7 @@ impl PartialEq for RuleSet {
         ensures value { result ≡ pointwise same_rule (rules_of self.now) (rules_of other.now) }
         ensures decides { IsTrue result ↔ (rules_of self.now ≡ rules_of other.now) }
     {
-        self.rules() == other.rules()
+        say_the_same(self.rules(), other.rules())
     }
 }
 

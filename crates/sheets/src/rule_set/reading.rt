@@ -45,6 +45,7 @@ pub struct Sheet {
     pub rules: RuleSet,
 }
 
+#[tactic(auto, using(crate::proofs::Trips::lawful))]
 pub fn read(octets: &[u8]) -> Result<Sheet, Refusal>
     ensures value { seen_as sheeting result ≡ sheet_from octets.now }
     ensures law { Lawful octets.now (seen_as sheeting result) }

@@ -1,6 +1,7 @@
 // Writing a sheet.
 ghost use Rattle.std.specs.Prelude.{◌≡◌, ◌+◌, ◌≤◌, length, take, IfOk, Ok};
-ghost use Rattle.layouts.specs.Layout.{rules_octets};
+ghost use Rattle.sheets.specs.Layout.{rules_octets};
+ghost use Rattle.layouts.specs.Memory.{Writes as WritesAt};
 ghost use Rattle.sheets.specs.Reading.{sheet_from};
 ghost use Rattle.sheets.specs.Sets.{rules_of};
 ghost use Rattle.sheets.specs.Writing.{Writes};
@@ -26,12 +27,27 @@ pub fn write(set: &RuleSet, heading: &[u8], memory: &mut [u8]) -> Result<usize, 
     write_fitting(set, heading, memory)
 }
 
+// How many octets the rules have.
+fn size_of_rules(set: &RuleSet) -> usize
+    ensures value { result ≡ length (rules_octets (rules_of set.now)) }
+    ensures bound { result ≤ 19584 }
+{
+    rules_size(&set.table)
+}
+
+// Writes the rules into the memory from a place on, and gives the place behind them.
+fn place_rules(set: &RuleSet, memory: &mut [u8], at: usize) -> Result<usize, Refusal>
+    ensures { WritesAt at (rules_octets (rules_of set.now)) memory.old result memory.new }
+{
+    write_rules(&set.table, memory, at)
+}
+
 // How many octets the sheet has.
 fn sheet_size(set: &RuleSet, heading: &[u8]) -> usize
     requires { length heading.now ≤ 16384 }
     ensures { result ≡ length heading.now + length (rules_octets (rules_of set.now)) + 3 }
 {
-    heading.len() + rules_size(&set.table) + 3
+    heading.len() + size_of_rules(set) + 3
 }
 
 // Writes a sheet that fits.
@@ -42,7 +58,7 @@ fn write_fitting(set: &RuleSet, heading: &[u8], memory: &mut [u8]) -> Result<usi
     ensures back { IfOk result (λ n. sheet_from (take n memory.new) ≡ Ok (length heading.now, rules_of set.now)) }
 {
     let at = write_octets(heading, memory, 0)?;
-    let at = write_rules(&set.table, memory, at)?;
-    let [d0, d1] = octets_of::<2>(rules_size(&set.table) as u128);
+    let at = place_rules(set, memory, at)?;
+    let [d0, d1] = octets_of::<2>(size_of_rules(set) as u128);
     write_octets(&[set.rules().len() as u8, d0, d1], memory, at)
 }

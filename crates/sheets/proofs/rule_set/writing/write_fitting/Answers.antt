@@ -12,7 +12,7 @@ returns c =
     let rs = rules_of c.args.set.now in
     let long = length_sheet c.args.heading.now rs in
     let rules = c.rules.result.now in
-    let os = c.octets_of.ensures ∙ ap (be 2) c.rules_size.ensures.value in
+    let os = c.octets_of.ensures ∙ ap (be 2) c.size_of_rules.ensures.value in
     let count : length rules ≡ length rs = sym (length-map rules saying) ∙ ap length c.rules.ensures.value in
     let trails : length rules ∷ (get_or c.octets_of.result 0 0 ∷ (get_or c.octets_of.result 1 0 ∷ [])) ≡ trailer rs
     = λ i. count i ∷ (get_or (os i) 0 0 ∷ (get_or (os i) 1 0 ∷ [])) in

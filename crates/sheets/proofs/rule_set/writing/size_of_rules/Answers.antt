@@ -1,0 +1,9 @@
+use Rattle.std.proofs.Common.{ap, length, ◌∙◌}
+use Rattle.layouts.specs.Layout.{rule_octets}
+use Rattle.layouts.proofs.Joins.{joined_map}
+use Rattle.rules.specs.Lists.{listed}
+use Rattle.rules.specs.Rules.{saying}
+use Rattle.sheets.proofs.rule_set.writing.size_of_rules.Goals as goal
+
+pub returns-clause-value : goal.returns-clause-value
+returns-clause-value c = c.rules_size.ensures.value ∙ ap length (joined_map rule_octets saying (listed c.args.set.now.table))
