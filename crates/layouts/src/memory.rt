@@ -13,6 +13,8 @@ pub(crate) trait InOctets {
     ghost octets: { Self → List ℕ };
 
     // Writes them into memory from a place on, and gives the place behind them.
+    // The two are lent as the public calls have them: around both, a struct would
+    // only put its own two fields into every clause.
     fn place(&self, memory: &mut [u8], at: usize) -> usize
         requires { at + length (octets self.now) ≤ length memory.old }
         ensures value { result ≡ at + length (octets self.now) }
