@@ -1,6 +1,7 @@
 // Command lines.
 ghost use Rattle.std.specs.Prelude.{◌≡◌, ◌≤◌, length, slice_index};
 ghost use Rattle.texts.specs.Commands.{ReadsLine};
+ghost use Rattle.texts.specs.declared.command.LineFault.TheVariants.{Hex};
 
 use crate::hex::{HexFault, read_hex};
 
@@ -11,6 +12,14 @@ pub enum LineFault {
     Unknown,
     // what follows is not one octet or more in hexadecimal, or more than the memory has
     Hex { fault: HexFault },
+}
+
+impl From<HexFault> for LineFault {
+    ghost from_gives = { λ fault e. e ≡ Hex fault };
+
+    fn from(fault: HexFault) -> LineFault {
+        LineFault::Hex { fault }
+    }
 }
 
 // Reads a line that hands in a sheet, its octets into the front of the memory, and gives their number.
@@ -36,8 +45,5 @@ fn read_sheet(line: &[u8], memory: &mut [u8]) -> Result<usize, LineFault>
             fault: HexFault::NotHex,
         });
     }
-    match read_hex(text, memory) {
-        Ok(length) => Ok(length),
-        Err(fault) => Err(LineFault::Hex { fault }),
-    }
+    Ok(read_hex(text, memory)?)
 }

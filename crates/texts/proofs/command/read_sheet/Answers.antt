@@ -1,4 +1,5 @@
 use Rattle.std.proofs.Common.{◌≡◌, ◌<◌, ◌∷◌, length, sym, refl, arith}
+use Rattle.std.proofs.lemmas.Result.{err_from_is_err_and}
 use Rattle.std.proofs.lemmas.Bool.{eqb-true, eqb-false}
 use Rattle.texts.proofs.Lines.{behind, begins, sheet_line, no_text, hex_refused}
 use Rattle.texts.proofs.command.read_sheet.Goals as goal
@@ -13,17 +14,18 @@ returns-then-is_empty c =
     let is = line_is (goal.at.returns-then-is_empty c).After-is_empty in
     (behind line, is, (λ xs. no_text line (behind line) is xs (eqb-true _ 0 (sym c.if-is_empty.ensures))), refl)
 
-pub returns-in-Ok : goal.returns-in-Ok
-returns-in-Ok c =
+pub returns : goal.returns
+returns c =
     let line = c.args.line.now in
-    let is = line_is (goal.at.returns-in-Ok c).After-is_empty in
+    let is = line_is (goal.at.returns c).After-is_empty in
     let some : 0 < length (behind line) = omega (arith, eqb-false (length (behind line)) 0 (sym c.if-is_empty.ensures)) in
-    let p = c.in-Ok.ensures in
+    let p = c.in_ok-read_hex.ensures in
     (p.0, sheet_line line (behind line) is p.0 some p.1, p.2, p.3)
 
-pub returns-in-Err : goal.returns-in-Err
-returns-in-Err c =
+pub returns-in_err-read_hex : goal.returns-in_err-read_hex
+returns-in_err-read_hex c =
     let line = c.args.line.now in
-    let is = line_is (goal.at.returns-in-Err c).After-is_empty in
+    let is = line_is (goal.at.returns-in_err-read_hex c).After-is_empty in
     let some : 0 < length (behind line) = omega (arith, eqb-false (length (behind line)) 0 (sym c.if-is_empty.ensures)) in
-    hex_refused line (behind line) is c.args.memory.now _ _ some c.in-Err.ensures
+    let p = err_from_is_err_and c.from_residual.result c.from_residual.ensures.1 in
+    rw (p.1, p.2) (hex_refused line (behind line) is c.args.memory.now _ _ some c.in_err-read_hex.ensures)
