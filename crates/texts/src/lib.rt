@@ -13,4 +13,4 @@ pub use carrying::{Accepted, NotAccepted, carry_out};
 pub use command::{LineFault, read_line};
 pub use hex::{Hex, HexFault, read_hex};
 pub use sheet::SheetWords;
-pub use words::RuleWords;
+pub use words::Words;
