@@ -1,12 +1,11 @@
 -- Laws of the answers to lines.
-use Rattle.std.proofs.Common.{◌≡◌, ℕ, ◌≤◌, Bool, true, false, leb, List, ◌++◌, length, take, drop, Ok, Err, codes, MatchBool, Result, sym, refl, ap, ◌∙◌, arith, length-append, MatchResult, IfOk, String, string_bytes}
+use Rattle.std.proofs.Common.{◌≡◌, ℕ, ◌≤◌, List, ◌++◌, length, take, drop, Ok, Err, codes, Result, sym, ap, ◌∙◌, arith, MatchResult, IfOk, String, string_bytes}
 use Rattle.std.proofs.lemmas.Result.{IfOk-weaker}
 use Rattle.terms.specs.declared.refusal.Refusal.{Refusal}
-use Rattle.terms.specs.declared.refusal.Refusal.TheVariants.{Memory}
 use Rattle.rules.specs.Rules.{Said}
 use Rattle.sheets.specs.Reading.{sheet_from}
 use Rattle.sheets.specs.Writing.{Rewrites}
-use Rattle.texts.specs.Commands.{SheetLine, ReadsLine}
+use Rattle.texts.specs.Commands.{SheetLine}
 use Rattle.texts.specs.Hexes.{hex_of}
 use Rattle.texts.specs.Answers.{Answers, Told, sheet_told, told_words}
 use Rattle.texts.specs.Replies.{refusal_words, Replies}
@@ -15,17 +14,7 @@ use Rattle.texts.proofs.Hexes.{hex_same}
 
 -- what a sheet that was written again was read as
 pub rewrites_ok : (xs m : List ℕ) (s : ℕ × List Said) (m' : List ℕ) → Rewrites xs m (Ok s) m' → (Ok s ≡ sheet_from xs) × (m' ≡ xs ++ drop (length xs) m)
-rewrites_ok xs m s m' w = go (sheet_from xs) refl (leb (length xs) (length m)) w
-  where
-    gave : Result (ℕ × List Said) Refusal
-    gave = Ok s
-
-    go : (r : Result (ℕ × List Said) Refusal) → sheet_from xs ≡ r → (b : Bool)
-        → MatchResult r (λ x. MatchBool b ((gave ≡ Ok x) × (m' ≡ xs ++ drop (length xs) m)) ((gave ≡ Err Memory) × (m' ≡ m))) (λ e. (gave ≡ Err e) × (m' ≡ m))
-        → (gave ≡ sheet_from xs) × (m' ≡ xs ++ drop (length xs) m)
-    go (Ok x) p true h = (h.0 ∙ sym p, h.1)
-    go (Ok x) p false h = absurd (let z : ◌≡◌ {A = ℕ} 0 1 = (let k = h.0 in cc) in omega arith)
-    go (Err e) p b h = absurd (let z : ◌≡◌ {A = ℕ} 0 1 = (let k = h.0 in cc) in omega arith)
+rewrites_ok xs m s m' w = (grind arith, grind arith)
 
 -- and why it was refused, where there is room for it
 pub rewrites_err : (xs m : List ℕ) (e : Refusal) (m' : List ℕ) → length xs ≤ length m → Rewrites xs m (Err e) m' → Err e ≡ sheet_from xs
@@ -34,9 +23,6 @@ rewrites_err xs m e m' room w = grind arith
 -- only one sheet is handed in by a line
 pub only : (line xs ys : List ℕ) → SheetLine line xs → SheetLine line ys → xs ≡ ys
 only line xs ys p q = hex_same xs ys p.octets q.octets (let e : codes "S " ++ hex_of xs ≡ codes "S " ++ hex_of ys = sym p.written ∙ q.written in ap (drop 2) e)
-
-pub fits : (line m : List ℕ) (n : ℕ) (m' : List ℕ) → ReadsLine line m (Ok n) m' → n ≤ length m'
-fits line m n m' r = omega (arith, r.2, ap length r.3, length-append r.0 (drop n m))
 
 -- the words to a sheet
 said : (xs : List ℕ) (r : Result (ℕ × List Said) Refusal) (told : Told) (text : List ℕ) → text ≡ told_words told → told ≡ sheet_told xs r → MatchResult r (λ s. text ≡ sheet_words (take s.0 xs) s.1 xs) (λ e. text ≡ refusal_words e)

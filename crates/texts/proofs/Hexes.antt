@@ -1,5 +1,5 @@
 -- Laws of octets as text.
-use Rattle.std.proofs.Common.{◌≡◌, ℕ, zero, suc, ◌+◌, ◌*◌, ◌/◌, ◌%◌, ◌-◌, ◌^◌, ◌<◌, Some, true, false, ◌&&◌, List, [], ◌∷◌, ◌++◌, length, get_or, take, drop, sym, refl, ap, ◌∙◌, le_of_suc-le-suc, not-suc-le-zero, arith}
+use Rattle.std.proofs.Common.{◌≡◌, ℕ, suc, ◌+◌, ◌*◌, ◌/◌, ◌%◌, ◌-◌, ◌^◌, ◌<◌, Some, true, false, ◌&&◌, List, [], ◌∷◌, ◌++◌, length, get_or, take, drop, sym, refl, ap, ◌∙◌, arith}
 use Rattle.std.specs.List.{list_all}
 use Rattle.std.specs.Fmt.{digits, digits_output, format_spec, styled_digits_output}
 use Rattle.std.proofs.lemmas.Fmt.{hex_byte}
@@ -10,7 +10,7 @@ use Rattle.octets.specs.Numbers.{Octets}
 use Rattle.octets.proofs.Numbers.{octets_cons}
 use Rattle.texts.specs.Hexes.{Stands, digit, hex_of, is_digit, all_digits, value, paired}
 
-pub hex_append : (xs ys : List ℕ) → hex_of (xs ++ ys) ≡ hex_of xs ++ hex_of ys
+hex_append : (xs ys : List ℕ) → hex_of (xs ++ ys) ≡ hex_of xs ++ hex_of ys
 hex_append [] ys = refl
 hex_append (x ∷ xs) ys = ap (λ l. digit (x / 16) ∷ (digit (x % 16) ∷ l)) (hex_append xs ys)
 
@@ -19,17 +19,12 @@ pub two_digits : (n : ℕ) (d : _) (s : _) → n < 256 → digits_output d ≡ S
 two_digits n d s byte e f = rw (e, f) (ap Some (hex_byte true n byte))
 
 -- one octet more
-pub hex_more : (xs : List ℕ) (i : ℕ) → i < length xs → hex_of (take (i + 1) xs) ≡ hex_of (take i xs) ++ (digit (get_or xs i 0 / 16) ∷ (digit (get_or xs i 0 % 16) ∷ []))
-hex_more xs i h = ap hex_of (take_more xs i 0 h) ∙ hex_append (take i xs) (get_or xs i 0 ∷ [])
+pub hex_more : (xs : List ℕ) (i : ℕ) → i < length xs → hex_of (take i xs) ++ (digit (get_or xs i 0 / 16) ∷ (digit (get_or xs i 0 % 16) ∷ [])) ≡ hex_of (take (i + 1) xs)
+hex_more xs i h = sym (ap hex_of (take_more xs i 0 h) ∙ hex_append (take i xs) (get_or xs i 0 ∷ []))
 
 pub digits_all : (xs : List ℕ) → list_all is_digit xs ≡ all_digits xs
 digits_all [] = refl
 digits_all (x ∷ xs) = ap (λ b. is_digit x && b) (digits_all xs)
-
-pub digit_in : (xs : List ℕ) (i : ℕ) → i < length xs → all_digits xs ≡ true → is_digit (get_or xs i 0) ≡ true
-digit_in [] i h e = absurd (not-suc-le-zero h)
-digit_in (x ∷ xs) zero h e = (and_parts (is_digit x) (all_digits xs) e).0
-digit_in (x ∷ xs) (suc i) h e = digit_in xs i (le_of_suc-le-suc h) (and_parts (is_digit x) (all_digits xs) e).1
 
 -- the first n octets of the memory m are those of the text before the rest; behind them it is as it was
 pub record Filled (text m₀ : List ℕ) (n : ℕ) (rest m : List ℕ) : Type 0 where
@@ -38,14 +33,14 @@ pub record Filled (text m₀ : List ℕ) (n : ℕ) (rest m : List ℕ) : Type 0 
   pub front : take n m ++ paired rest ≡ paired text
   pub behind : drop n m ≡ drop n m₀
 
-pub digit_value : (c : ℕ) → is_digit c ≡ true → (digit (value c) ≡ c) × (value c < 16)
+digit_value : (c : ℕ) → is_digit c ≡ true → (digit (value c) ≡ c) × (value c < 16)
 digit_value c e = (grind (arith, nat_tests), grind (arith, nat_tests))
 
-pub digit_is : (d : ℕ) → d < 16 → is_digit (digit d) ≡ true
+digit_is : (d : ℕ) → d < 16 → is_digit (digit d) ≡ true
 digit_is d h = grind (arith, nat_tests)
 
 -- digits in pairs are the text of the octets that they make
-pub hex_paired : (text : List ℕ) → length text % 2 ≡ 0 → all_digits text ≡ true → (hex_of (paired text) ≡ text) × Octets (paired text) × (length (paired text) ≡ length text / 2)
+hex_paired : (text : List ℕ) → length text % 2 ≡ 0 → all_digits text ≡ true → (hex_of (paired text) ≡ text) × Octets (paired text) × (length (paired text) ≡ length text / 2)
 hex_paired [] even all = (refl, (λ i. omega arith), refl)
 hex_paired (a ∷ []) even all = absurd (omega arith)
 hex_paired (a ∷ (b ∷ t)) even all =
@@ -63,7 +58,7 @@ pub length_hex : (xs : List ℕ) → length (hex_of xs) ≡ 2 * length xs
 length_hex [] = refl
 length_hex (x ∷ xs) = omega (arith, length_hex xs)
 
-pub hex_digits : (xs : List ℕ) → Octets xs → all_digits (hex_of xs) ≡ true
+hex_digits : (xs : List ℕ) → Octets xs → all_digits (hex_of xs) ≡ true
 hex_digits [] o = refl
 hex_digits (x ∷ xs) o =
     let byte : x < 256 = o 0 in

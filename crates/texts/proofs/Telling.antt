@@ -1,5 +1,5 @@
 -- Laws of the answers to commands, as values.
-use Rattle.std.proofs.Common.{◌≡◌, ℕ, ◌≤◌, List, length, take, drop, Ok, Err, sym, ap, ◌∙◌, subst, inr, arith}
+use Rattle.std.proofs.Common.{◌≡◌, ℕ, ◌≤◌, List, length, take, drop, Ok, Err, sym, ap, ◌∙◌, subst, inr, arith, length-append}
 use Rattle.std.proofs.lemmas.List.{take_at}
 use Rattle.terms.specs.declared.refusal.Refusal.{Refusal}
 use Rattle.rules.specs.Rules.{Said}
@@ -24,22 +24,23 @@ handing text xs told s is =
     }
 
 -- octets that a text hands in, and that are written again or refused
-module _ (text m : List ℕ) (n k : ℕ) (m' w w' : List ℕ) (r : ReadsLine text m (Ok n) m') (same : k ≡ n) where
+module _ (text m : List ℕ) (n : ℕ) (m' w w' : List ℕ) (r : ReadsLine text m (Ok n) m') where
   abbrev xs : List ℕ
   xs = r.0
 
-  front : take k m' ≡ xs
-  front = (λ i. take (same i) (r.3 i)) ∙ take_at xs (drop n m) n r.2
+  front : take n m' ≡ xs
+  front = ap (take n) r.3 ∙ take_at xs (drop n m) n r.2
 
-  pub accepted_answered : (s : ℕ × List Said) → Rewrites (take k m') w (Ok s) w' → Answers text (accepted (take n w') s.0 s.1)
+  pub accepted_answered : (s : ℕ × List Said) → Rewrites (take n m') w (Ok s) w' → Answers text (accepted (take n w') s.0 s.1)
   accepted_answered s again =
       let (read, written) = rewrites_ok xs w s w' (subst (λ l. Rewrites l w (Ok s) w') front again) in
       let back : take n w' ≡ xs = ap (take n) written ∙ take_at xs (drop (length xs) w) n r.2 in
       handing text xs _ r.1 (ap (λ l. accepted l s.0 s.1) back ∙ ap (sheet_told xs) read)
 
-  pub refused_answered : (e : Refusal) → n ≤ length w → Rewrites (take k m') w (Err e) w' → Answers text (refused e)
+  pub refused_answered : (e : Refusal) → length m' ≤ length w → Rewrites (take n m') w (Err e) w' → Answers text (refused e)
   refused_answered e room again =
-      handing text xs _ r.1 (ap (sheet_told xs) (rewrites_err xs w e w' (omega (arith, r.2, room)) (subst (λ l. Rewrites l w (Err e) w') front again)))
+      let fits : length xs ≤ length w = omega (arith, room, ap length r.3, length-append xs (drop n m)) in
+      handing text xs _ r.1 (ap (sheet_told xs) (rewrites_err xs w e w' fits (subst (λ l. Rewrites l w (Err e) w') front again)))
 
 -- a text that hands in no octets, or more than a sheet has
 pub fault_answered : (text m : List ℕ) (fault : LineFault) (m' : List ℕ) (told : Told) → length m ≡ 16384 → ReadsLine text m (Err fault) m' → told ≡ fault_told fault → Answers text told

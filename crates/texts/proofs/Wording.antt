@@ -1,5 +1,5 @@
 -- Laws of rules in words.
-use Rattle.std.proofs.Common.{◌≡◌, ℕ, ◌+◌, ◌-◌, ◌*◌, ◌/◌, ◌^◌, ◌<◌, ◌≤◌, min, List, [], ◌∷◌, ◌++◌, length, get_or, take, drop, codes, sym, refl, ap, ◌∙◌, append_assoc, add-one, arith, length-drop}
+use Rattle.std.proofs.Common.{◌≡◌, ℕ, ◌+◌, ◌-◌, ◌*◌, ◌/◌, ◌^◌, ◌<◌, ◌≤◌, min, List, [], ◌++◌, length, get_or, take, drop, codes, sym, refl, ap, ◌∙◌, append_assoc, add-one, arith, length-drop}
 use Rattle.std.proofs.lemmas.List.{flat_map_more, take_more, take_at, drop_at, drop-drop}
 use Rattle.std.specs.Int.{w32, to_be_bytes}
 use Rattle.std.specs.declared.net.ipv4_addr.Ipv4Addr.{Ipv4Addr}
@@ -11,10 +11,8 @@ use Rattle.texts.specs.Hexes.{hex_of}
 use Rattle.rules.specs.declared.component.Component.{Component}
 
 -- one component more
-pub components_more : (cs : List Component) (i : ℕ) (x : Component) → i < length cs → x ≡ get_or cs i x → components_words (take i cs) ++ (codes ", " ++ component_words x) ≡ components_words (take (i + 1) cs)
-components_more cs i x h e =
-    flat_map_more (λ c. codes ", " ++ component_words c) [] (take i cs) x
-    ∙ ap components_words (ap (λ y. take i cs ++ (y ∷ [])) e ∙ sym (take_more cs i x h))
+pub components_more : (cs : List Component) (i : ℕ) (d : Component) → i < length cs → components_words (take i cs) ++ (codes ", " ++ component_words (get_or cs i d)) ≡ components_words (take (i + 1) cs)
+components_more cs i d h = flat_map_more (λ c. codes ", " ++ component_words c) [] (take i cs) (get_or cs i d) ∙ ap components_words (sym (take_more cs i d h))
 
 -- an address as it is printed
 pub dotted_four : (a : Ipv4Addr) (n : ℕ) → IsIpv4OfBits a n → ipv4_text (ipv4_octets a) ≡ dotted (be 4 n)

@@ -13,6 +13,7 @@ pub fn reply(heap: Global, line: &[u8]) -> Result<String, AllocError>
     printed(heap, carry_out(line))
 }
 
+// An answer in words: the reply to each line that it answers.
 fn printed(heap: Global, answer: Result<Accepted, NotAccepted>) -> Result<String, AllocError>
     ensures { (line : List ℕ) → Answers line (telling answer) → IfOk result (λ s. Replies line (string_bytes s)) }
 {

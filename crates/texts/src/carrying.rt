@@ -122,7 +122,7 @@ fn carry_out_in(text: &[u8], memory: &mut [u8]) -> Result<Accepted, NotAccepted>
 {
     let size = read_line(text, memory)?;
     let mut written = [0; LIMIT];
-    let found = rewrite(&memory[0..size], &mut written)?;
+    let found = rewrite(&memory[..size], &mut written)?;
     Ok(Accepted {
         found,
         written,

@@ -6,7 +6,7 @@ ghost use Rattle.texts.specs.declared.command.LineFault.TheVariants.{Hex};
 use crate::hex::{HexFault, read_hex};
 
 // Why a line is no command that can be carried out.
-#[derive(Clone, Copy)]
+#[derive(Clone, Copy, PartialEq, Eq, Debug)]
 pub enum LineFault {
     // it does not begin as a command does
     Unknown,

@@ -129,6 +129,7 @@ impl fmt::Display for Words<&Rule> {
 impl fmt::Display for Words<&[Component]> {
     ghost output = { λ x. Some (components_words x.0.now) };
 
+    #[tactic(auto, using(std::proofs::lemmas::Grind::put_two, crate::proofs::Wording::components_more))]
     fn fmt<W: fmt::Write>(&self, f: &mut fmt::Formatter<W>) -> fmt::Result {
         for component in self.0 {
             write!(f, ", {}", Words(*component))?;

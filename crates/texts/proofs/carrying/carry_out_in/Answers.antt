@@ -1,8 +1,7 @@
-use Rattle.std.proofs.Common.{◌≡◌, ◌-◌, replicate, ap, ◌∙◌, arith}
+use Rattle.std.proofs.Common.{replicate, ap, ◌∙◌, arith}
 use Rattle.std.proofs.lemmas.Result.{err_from_is_err_and}
 use Rattle.sheets.specs.Sets.{sheeting}
 use Rattle.texts.specs.Answers.{telling}
-use Rattle.texts.proofs.Answering.{fits}
 use Rattle.texts.proofs.Telling.{accepted_answered, refused_answered, fault_answered}
 use Rattle.texts.proofs.carrying.carry_out_in.Goals as goal
 
@@ -14,13 +13,8 @@ returns-in_err-size c =
 pub returns-in_err-found : goal.returns-in_err-found
 returns-in_err-found c =
     let p = err_from_is_err_and c.from_residual-in_err-found.result c.from_residual-in_err-found.ensures.1 in
-    let n = c.in_ok-size.size in
-    let cut : n - 0 ≡ n = omega arith in
-    let room = fits c.args.text.now c.args.memory.now n c.read_line.new.memory c.in_ok-size.ensures in
-    rw (p.1, p.2) (refused_answered c.args.text.now c.args.memory.now n (n - 0) c.read_line.new.memory (replicate 16384 0) c.rewrite.new.memory c.in_ok-size.ensures cut _ (omega (arith, room, c.read_line.auto.memory, c.requires)) c.in_err-found.ensures)
+    rw (p.1, p.2) (refused_answered c.args.text.now c.args.memory.now c.in_ok-size.size c.read_line.new.memory (replicate 16384 0) c.rewrite.new.memory c.in_ok-size.ensures _ (omega (arith, c.read_line.auto.memory, c.requires)) c.in_err-found.ensures)
 
 pub returns : goal.returns
 returns c =
-    let n = c.in_ok-size.size in
-    let cut : n - 0 ≡ n = omega arith in
-    accepted_answered c.args.text.now c.args.memory.now n (n - 0) c.read_line.new.memory (replicate 16384 0) c.rewrite.new.memory c.in_ok-size.ensures cut (sheeting c.in_ok-found.found) c.in_ok-found.ensures
+    accepted_answered c.args.text.now c.args.memory.now c.in_ok-size.size c.read_line.new.memory (replicate 16384 0) c.rewrite.new.memory c.in_ok-size.ensures (sheeting c.in_ok-found.found) c.in_ok-found.ensures
