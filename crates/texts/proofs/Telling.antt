@@ -1,24 +1,18 @@
 -- Laws of the answers to commands, as values.
-use Rattle.std.proofs.Common.{◌≡◌, ℕ, List, length, take, drop, Ok, Err, sym, refl, ap, ◌∙◌, inr, arith}
+use Rattle.std.proofs.Common.{◌≡◌, ℕ, ◌≤◌, List, length, take, drop, Ok, Err, sym, ap, ◌∙◌, subst, inr, arith, length-append}
 use Rattle.std.proofs.lemmas.List.{take_at}
+use Rattle.terms.specs.declared.refusal.Refusal.{Refusal}
 use Rattle.rules.specs.Rules.{Said}
 use Rattle.sheets.specs.Reading.{sheet_from}
 use Rattle.sheets.specs.Writing.{Rewrites}
 use Rattle.sheets.proofs.Refused.{size_refused}
-use Rattle.texts.specs.Answers.{Answers, Told, accepted, sheet_told, fault_told}
+use Rattle.texts.specs.Answers.{Answers, Told, accepted, refused, sheet_told, fault_told}
 use Rattle.texts.specs.Commands.{SheetLine, ReadsLine}
 use Rattle.texts.specs.Hexes.{hex_of}
 use Rattle.texts.specs.declared.command.LineFault.{LineFault}
 use Rattle.texts.specs.declared.command.LineFault.TheVariants.{Unknown, Hex}
 use Rattle.texts.specs.declared.hex.HexFault.TheVariants.{NotHex, NoRoom}
-use Rattle.texts.proofs.Answering.{only, rewrites_ok}
-
--- a sheet that was written again, where there is room: its octets, and what they are read as
-pub sheet_is_told : (xs m : List ℕ) (s : ℕ × List Said) (m' : List ℕ) → Rewrites xs m (Ok s) m' → accepted (take (length xs) m') s.0 s.1 ≡ sheet_told xs (sheet_from xs)
-sheet_is_told xs m s m' w =
-    let (read, memory) = rewrites_ok xs m s m' w in
-    let front : take (length xs) m' ≡ xs = ap (take (length xs)) memory ∙ take_at xs (drop (length xs) m) (length xs) refl in
-    ap (λ l. accepted l s.0 s.1) front ∙ ap (sheet_told xs) read
+use Rattle.texts.proofs.Answering.{only, rewrites_ok, rewrites_err}
 
 -- the answer to these octets is that to the text that hands them in
 handing : (text xs : List ℕ) (told : Told) → SheetLine text xs → told ≡ sheet_told xs (sheet_from xs) → Answers text told
@@ -29,10 +23,24 @@ handing text xs told s is =
       to_unknown = λ none. absurd (none (hex_of xs) s.written);
     }
 
-pub answered : (text m : List ℕ) (n k : ℕ) (m' : List ℕ) (told : Told) → ReadsLine text m (Ok n) m' → k ≡ n → told ≡ sheet_told (take k m') (sheet_from (take k m')) → Answers text told
-answered text m n k m' told (xs, s, size, memory) same is =
-    let front : take k m' ≡ xs = (λ i. take (same i) (memory i)) ∙ take_at xs (drop n m) n size in
-    handing text xs told s (is ∙ ap (λ l. sheet_told l (sheet_from l)) front)
+-- octets that a text hands in, and that are written again or refused
+module _ (text m : List ℕ) (n : ℕ) (m' w w' : List ℕ) (r : ReadsLine text m (Ok n) m') where
+  abbrev xs : List ℕ
+  xs = r.0
+
+  front : take n m' ≡ xs
+  front = ap (take n) r.3 ∙ take_at xs (drop n m) n r.2
+
+  pub accepted_answered : (s : ℕ × List Said) → Rewrites (take n m') w (Ok s) w' → Answers text (accepted (take n w') s.0 s.1)
+  accepted_answered s again =
+      let (read, written) = rewrites_ok xs w s w' (subst (λ l. Rewrites l w (Ok s) w') front again) in
+      let back : take n w' ≡ xs = ap (take n) written ∙ take_at xs (drop (length xs) w) n r.2 in
+      handing text xs _ r.1 (ap (λ l. accepted l s.0 s.1) back ∙ ap (sheet_told xs) read)
+
+  pub refused_answered : (e : Refusal) → length m' ≤ length w → Rewrites (take n m') w (Err e) w' → Answers text (refused e)
+  refused_answered e room again =
+      let fits : length xs ≤ length w = omega (arith, room, ap length r.3, length-append xs (drop n m)) in
+      handing text xs _ r.1 (ap (sheet_told xs) (rewrites_err xs w e w' fits (subst (λ l. Rewrites l w (Err e) w') front again)))
 
 -- a text that hands in no octets, or more than a sheet has
 pub fault_answered : (text m : List ℕ) (fault : LineFault) (m' : List ℕ) (told : Told) → length m ≡ 16384 → ReadsLine text m (Err fault) m' → told ≡ fault_told fault → Answers text told

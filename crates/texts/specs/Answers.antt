@@ -9,8 +9,8 @@ use Rattle.texts.specs.Commands.{SheetLine}
 use Rattle.texts.specs.Replies.{refusal_words, no_hex, no_command}
 use Rattle.texts.specs.Sheets.{sheet_words}
 use Rattle.texts.specs.declared.carrying.Accepted.{Accepted}
-use Rattle.texts.specs.declared.carrying.Answer.{Answer}
-use Rattle.texts.specs.declared.carrying.Answer.TheVariants as answer
+use Rattle.texts.specs.declared.carrying.NotAccepted.{NotAccepted}
+use Rattle.texts.specs.declared.carrying.NotAccepted.TheVariants.{Refused, NoHex, NoCommand}
 use Rattle.texts.specs.declared.command.LineFault.{LineFault}
 use Rattle.texts.specs.declared.command.LineFault.TheVariants.{Unknown, Hex}
 use Rattle.texts.specs.declared.hex.HexFault.TheVariants.{NotHex, NoRoom}
@@ -27,11 +27,11 @@ pub data Told : Type 0 where
 abbrev pub written_in : Accepted → List ℕ
 written_in a = take a.size a.written
 
-abbrev pub telling : Answer → Told
-telling (answer.Accepted a) = accepted (written_in a) a.found.heading (rules_of a.found.rules)
-telling (answer.Refused e) = refused e
-telling answer.NoHex = bad_hex
-telling answer.NoCommand = bad_command
+abbrev pub telling : Result Accepted NotAccepted → Told
+telling (Ok a) = accepted (written_in a) a.found.heading (rules_of a.found.rules)
+telling (Err (Refused e)) = refused e
+telling (Err NoHex) = bad_hex
+telling (Err NoCommand) = bad_command
 
 -- to octets handed in as a sheet: the same octets with what they are read as, or the refusal
 abbrev pub sheet_told : List ℕ → Result (ℕ × List Said) Refusal → Told

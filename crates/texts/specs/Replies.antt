@@ -5,8 +5,6 @@ use Rattle.terms.specs.declared.refusal.Refusal.{Refusal}
 use Rattle.sheets.specs.Reading.{sheet_from}
 use Rattle.texts.specs.Commands.{SheetLine}
 use Rattle.texts.specs.Sheets.{sheet_words}
-use Rattle.texts.specs.declared.command.LineFault.{LineFault}
-use Rattle.texts.specs.declared.command.LineFault.TheVariants.{Unknown, Hex}
 
 abbrev pub refusal_words : Refusal → List ℕ
 refusal_words e = codes "no " ++ (decimal (number_of e) ++ (codes " " ++ words_of e))
@@ -22,10 +20,6 @@ no_hex = codes "no hex: two of the digits 0-9 and A-F for each octet, one octet 
 -- to a line that does not begin as a command does
 abbrev pub no_command : List ℕ
 no_command = codes "no command: S, one space and a sheet in hex"
-
-abbrev pub fault_words : LineFault → List ℕ
-fault_words Unknown = no_command
-fault_words (Hex fault) = no_hex
 
 -- to a line that hands in a sheet, to another line that begins like one, and to any other
 pub record Replies (line text : List ℕ) : Type 0 where

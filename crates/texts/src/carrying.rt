@@ -1,9 +1,9 @@
 // Carrying out a command: its answer as a value, with no memory from an allocator.
-ghost use Rattle.std.specs.Prelude.{◌≡◌, ◌≤◌, map, length, take, Some};
+ghost use Rattle.std.specs.Prelude.{◌≡◌, map, length, take, Some, Ok, Err};
 ghost use Rattle.rules.specs.Rules.{saying};
-ghost use Rattle.sheets.specs.Reading.{sheet_from};
 ghost use Rattle.sheets.specs.Sets.{rules_of};
-ghost use Rattle.texts.specs.Answers.{Answers, telling, told_words, sheet_told, fault_told, written_in};
+ghost use Rattle.texts.specs.Answers.{Answers, telling, told_words, fault_told, written_in};
+ghost use Rattle.texts.specs.declared.carrying.NotAccepted.TheVariants.{Refused};
 
 use crate::command::{LineFault, read_line};
 use crate::hex::HexFault;
@@ -45,9 +45,23 @@ impl Accepted {
     }
 }
 
-#[derive(Clone, Copy)]
-pub enum Answer {
-    Accepted(Accepted),
+// What `{}` writes is the sheet in words.
+impl fmt::Display for Accepted {
+    ghost output = { λ x. Some (told_words (telling (Ok x))) };
+
+    fn fmt<W: fmt::Write>(&self, f: &mut fmt::Formatter<W>) -> fmt::Result {
+        let words = SheetWords {
+            heading: self.heading(),
+            rules: self.rules(),
+            written: self.octets(),
+        };
+        write!(f, "{words}")
+    }
+}
+
+// Why no sheet is accepted.
+#[derive(Clone, Copy, PartialEq, Eq, Debug)]
+pub enum NotAccepted {
     Refused(Refusal),
     // the text hands in no octets
     NoHex,
@@ -55,8 +69,46 @@ pub enum Answer {
     NoCommand,
 }
 
+impl From<LineFault> for NotAccepted {
+    ghost from_gives = { λ fault e. telling (Err e) ≡ fault_told fault };
+
+    fn from(fault: LineFault) -> NotAccepted {
+        match fault {
+            LineFault::Unknown => NotAccepted::NoCommand,
+            LineFault::Hex {
+                fault: HexFault::NotHex,
+            } => NotAccepted::NoHex,
+            LineFault::Hex {
+                fault: HexFault::NoRoom,
+            } => NotAccepted::Refused(Refusal::SheetSize),
+        }
+    }
+}
+
+impl From<Refusal> for NotAccepted {
+    ghost from_gives = { λ cause e. e ≡ Refused cause };
+
+    fn from(cause: Refusal) -> NotAccepted {
+        NotAccepted::Refused(cause)
+    }
+}
+
+impl fmt::Display for NotAccepted {
+    ghost output = { λ x. Some (told_words (telling (Err x))) };
+
+    fn fmt<W: fmt::Write>(&self, f: &mut fmt::Formatter<W>) -> fmt::Result {
+        match self {
+            NotAccepted::Refused(refusal) => write!(f, "no {} {refusal}", refusal.number()),
+            NotAccepted::NoHex => f.write_str(
+                "no hex: two of the digits 0-9 and A-F for each octet, one octet or more",
+            ),
+            NotAccepted::NoCommand => f.write_str("no command: S, one space and a sheet in hex"),
+        }
+    }
+}
+
 // Carries out a command.
-pub fn carry_out(text: &[u8]) -> Answer
+pub fn carry_out(text: &[u8]) -> Result<Accepted, NotAccepted>
     ensures { Answers text.now (telling result) }
 {
     let mut octets = [0; LIMIT];
@@ -64,65 +116,16 @@ pub fn carry_out(text: &[u8]) -> Answer
 }
 
 // Carries out a command, with memory for as many octets as a sheet has.
-fn carry_out_in(text: &[u8], memory: &mut [u8]) -> Answer
+fn carry_out_in(text: &[u8], memory: &mut [u8]) -> Result<Accepted, NotAccepted>
     requires { length memory.old ≡ 16384 }
     ensures { Answers text.now (telling result) }
 {
-    match read_line(text, memory) {
-        Ok(size) => answer_sheet(&memory[0..size]),
-        Err(fault) => answer_fault(fault),
-    }
-}
-
-// Answers a text that is no command or hands in more octets than a sheet has.
-fn answer_fault(fault: LineFault) -> Answer
-    ensures { telling result ≡ fault_told fault }
-{
-    match fault {
-        LineFault::Unknown => Answer::NoCommand,
-        LineFault::Hex {
-            fault: HexFault::NotHex,
-        } => Answer::NoHex,
-        LineFault::Hex {
-            fault: HexFault::NoRoom,
-        } => Answer::Refused(Refusal::SheetSize),
-    }
-}
-
-// Answers octets handed in as a sheet.
-fn answer_sheet(octets: &[u8]) -> Answer
-    requires { length octets.now ≤ 16384 }
-    ensures { telling result ≡ sheet_told octets.now (sheet_from octets.now) }
-{
+    let size = read_line(text, memory)?;
     let mut written = [0; LIMIT];
-    match rewrite(octets, &mut written) {
-        Ok(found) => Answer::Accepted(Accepted {
-            found,
-            written,
-            size: octets.len(),
-        }),
-        Err(refusal) => Answer::Refused(refusal),
-    }
-}
-
-impl fmt::Display for Answer {
-    ghost output = { λ x. Some (told_words (telling x)) };
-
-    fn fmt<W: fmt::Write>(&self, f: &mut fmt::Formatter<W>) -> fmt::Result {
-        match self {
-            Answer::Accepted(accepted) => {
-                let words = SheetWords {
-                    heading: accepted.heading(),
-                    rules: accepted.rules(),
-                    written: accepted.octets(),
-                };
-                write!(f, "{words}")
-            }
-            Answer::Refused(refusal) => write!(f, "no {} {refusal}", refusal.number()),
-            Answer::NoHex => f.write_str(
-                "no hex: two of the digits 0-9 and A-F for each octet, one octet or more",
-            ),
-            Answer::NoCommand => f.write_str("no command: S, one space and a sheet in hex"),
-        }
-    }
+    let found = rewrite(&memory[..size], &mut written)?;
+    Ok(Accepted {
+        found,
+        written,
+        size,
+    })
 }

@@ -1,7 +1,7 @@
 // Octets as text: two upper-case hexadecimal digits for each.
-ghost use Rattle.std.specs.Prelude.{◌≡◌, ◌*◌, ◌%◌, ◌<◌, ◌≤◌, true, ◌++◌, length, drop, Some};
+ghost use Rattle.std.specs.Prelude.{◌≡◌, ◌/◌, ◌%◌, ◌<◌, ◌≤◌, true, ◌++◌, length, drop, Some};
 ghost use Rattle.std.specs.Fmt.{WritesOnOk};
-ghost use Rattle.texts.specs.Hexes.{digit, hex_of, is_digit, all_digits, value, paired, ReadsHex};
+ghost use Rattle.texts.specs.Hexes.{hex_of, is_digit, all_digits, value, paired, ReadsHex};
 
 use std::fmt;
 
@@ -21,21 +21,9 @@ fn write_digits<W: fmt::Write>(f: &mut fmt::Formatter<W>, octets: &[u8]) -> fmt:
     ensures { WritesOnOk W.write_str_gives f.old result (hex_of octets.now) f.new }
 {
     for octet in octets {
-        f.write_char(digit_of(*octet / 16))?;
-        f.write_char(digit_of(*octet % 16))?;
+        write!(f, "{octet:02X}")?;
     }
     Ok(())
-}
-
-fn digit_of(number: u8) -> char
-    requires { number < 16 }
-    ensures { result ≡ digit number }
-{
-    if number < 10 {
-        char::from(b'0' + number)
-    } else {
-        char::from(b'A' + (number - 10))
-    }
 }
 
 // Why a text is not read.
@@ -52,10 +40,7 @@ pub enum HexFault {
 pub fn read_hex(text: &[u8], memory: &mut [u8]) -> Result<usize, HexFault>
     ensures { ReadsHex text.now memory.old result memory.new }
 {
-    if text.len() % 2 != 0 {
-        return Err(HexFault::NotHex);
-    }
-    if !is_hex(text) {
+    if text.len() % 2 != 0 || !is_hex(text) {
         return Err(HexFault::NotHex);
     }
     decode(text, memory)
@@ -71,36 +56,31 @@ fn decode(text: &[u8], memory: &mut [u8]) -> Result<usize, HexFault>
     if memory.len() < count {
         return Err(HexFault::NoRoom);
     }
-    fill(memory, text, count);
+    fill(memory, text);
     Ok(count)
 }
 
 fn is_hex(text: &[u8]) -> bool
     ensures { result ≡ all_digits text.now }
 {
-    for c in text {
-        if !is_digit(*c) {
-            return false;
-        }
-    }
-    true
+    text.iter().all(|c| is_digit(*c))
 }
 
 fn is_digit(c: u8) -> bool
     ensures { result ≡ is_digit c }
 {
-    (b'0' <= c && c <= b'9') || (b'A' <= c && c <= b'F')
+    matches!(c, b'0'..=b'9' | b'A'..=b'F')
 }
 
 // The first octets of the memory, each from two digits.
-fn fill(memory: &mut [u8], text: &[u8], count: usize)
+fn fill(memory: &mut [u8], text: &[u8])
     requires digits { all_digits text.now ≡ true }
-    requires even { length text.now ≡ 2 * count }
-    requires room { count ≤ length memory.old }
-    ensures { memory.new ≡ paired text.now ++ drop count memory.old }
+    requires even { length text.now % 2 ≡ 0 }
+    requires room { length text.now / 2 ≤ length memory.old }
+    ensures { memory.new ≡ paired text.now ++ drop (length text.now / 2) memory.old }
 {
-    for i in 0..count {
-        memory[i] = value_of(text[2 * i]) * 16 + value_of(text[2 * i + 1]);
+    for (i, pair) in text.chunks_exact(2).enumerate() {
+        memory[i] = value_of(pair[0]) * 16 + value_of(pair[1]);
     }
 }
 

@@ -9,8 +9,8 @@ pub mod sheet;
 pub mod words;
 
 pub use answer::reply;
-pub use carrying::{Accepted, Answer, carry_out};
+pub use carrying::{Accepted, NotAccepted, carry_out};
 pub use command::{LineFault, read_line};
 pub use hex::{Hex, HexFault, read_hex};
 pub use sheet::SheetWords;
-pub use words::RuleWords;
+pub use words::Words;

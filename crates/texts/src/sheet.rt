@@ -1,11 +1,10 @@
 // Sheets in words.
 ghost use Rattle.std.specs.Prelude.{map, Some};
-ghost use Rattle.std.specs.Fmt.{WritesOnOk};
 ghost use Rattle.rules.specs.Rules.{saying};
 ghost use Rattle.texts.specs.Sheets.{lines_from, sheet_words};
 
 use crate::hex::Hex;
-use crate::words::RuleWords;
+use crate::words::Words;
 use rules::Rule;
 use std::fmt;
 
@@ -23,21 +22,23 @@ impl fmt::Display for SheetWords<'_> {
     fn fmt<W: fmt::Write>(&self, f: &mut fmt::Formatter<W>) -> fmt::Result {
         write!(
             f,
-            "ok\n heading [{}], {} octets\n",
+            "ok\n heading [{}], {} octets\n{} written back [{}], the same octets",
             Hex(self.heading),
-            self.heading.len()
-        )?;
-        write_rules(f, self.rules)?;
-        write!(f, " written back [{}], the same octets", Hex(self.written))
+            self.heading.len(),
+            Words(self.rules),
+            Hex(self.written)
+        )
     }
 }
 
 // A line for each rule, with its position.
-fn write_rules<W: fmt::Write>(f: &mut fmt::Formatter<W>, rules: &[Rule]) -> fmt::Result
-    ensures { WritesOnOk W.write_str_gives f.old result (lines_from 0 (map saying rules.now)) f.new }
-{
-    for (i, rule) in rules.iter().enumerate() {
-        write!(f, " rule {i}: {}\n", RuleWords(rule))?;
+impl fmt::Display for Words<&[Rule]> {
+    ghost output = { λ x. Some (lines_from 0 (map saying x.0.now)) };
+
+    fn fmt<W: fmt::Write>(&self, f: &mut fmt::Formatter<W>) -> fmt::Result {
+        for (i, rule) in self.0.iter().enumerate() {
+            writeln!(f, " rule {i}: {}", Words(rule))?;
+        }
+        Ok(())
     }
-    Ok(())
 }

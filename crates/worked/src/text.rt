@@ -1,8 +1,9 @@
 // Octets as text, and what lines are answered.
 #[cfg(test)]
 mod tests {
+    use std::alloc::{AllocError, Global};
     use std::test::Fail;
-    use texts::{Hex, HexFault, carry_out, read_hex, reply};
+    use texts::{Accepted, Hex, HexFault, NotAccepted, carry_out, read_hex, reply};
 
     // A text, and the octets that it stands for.
     const PRINTED: [(&str, &[u8]); 3] = [
@@ -88,13 +89,21 @@ mod tests {
         (" S 00", NO_COMMAND),
     ];
 
+    // An answer in words.
+    fn words(heap: Global, answer: Result<Accepted, NotAccepted>) -> Result<String, AllocError> {
+        match answer {
+            Ok(accepted) => format!(in heap; "{accepted}"),
+            Err(fault) => format!(in heap; "{fault}"),
+        }
+    }
+
     #[test]
     fn lines_are_answered(rt: HostRuntime) -> Result<(), Fail> {
         let heap = rt.alloc();
         for (line, wanted) in ANSWERS {
             assert_eq!(rt; reply(heap, line.as_bytes())?.as_str(), wanted);
             let answer = carry_out(line.as_bytes());
-            assert_eq!(rt; format!(in heap; "{answer}")?.as_str(), wanted);
+            assert_eq!(rt; words(heap, answer)?.as_str(), wanted);
         }
         Ok(())
     }
@@ -121,7 +130,7 @@ mod tests {
                 size
             );
             let answer = carry_out(command.as_bytes());
-            assert_eq!(rt; format!(in heap; "{answer}")?.as_str(), wanted, "{}", size);
+            assert_eq!(rt; words(heap, answer)?.as_str(), wanted, "{}", size);
             command.push_str("0")?;
             assert_eq!(rt;
                 reply(heap, command.as_bytes())?.as_str(),
@@ -130,7 +139,7 @@ mod tests {
                 size
             );
             let answer = carry_out(command.as_bytes());
-            assert_eq!(rt; format!(in heap; "{answer}")?.as_str(), NO_HEX, "{}", size);
+            assert_eq!(rt; words(heap, answer)?.as_str(), NO_HEX, "{}", size);
         }
         Ok(())
     }

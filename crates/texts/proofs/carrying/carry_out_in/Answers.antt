@@ -1,19 +1,20 @@
-use Rattle.std.proofs.Common.{◌≡◌, ◌-◌, arith, length-take, rules}
-use Rattle.texts.proofs.Answering.{fits}
-use Rattle.texts.proofs.Telling.{answered, fault_answered}
+use Rattle.std.proofs.Common.{replicate, ap, ◌∙◌, arith}
+use Rattle.std.proofs.lemmas.Result.{err_from_is_err_and}
+use Rattle.sheets.specs.Sets.{sheeting}
+use Rattle.texts.specs.Answers.{telling}
+use Rattle.texts.proofs.Telling.{accepted_answered, refused_answered, fault_answered}
 use Rattle.texts.proofs.carrying.carry_out_in.Goals as goal
 
-pub slice_bounds-answer_sheet-end : goal.slice_bounds-answer_sheet-end
-slice_bounds-answer_sheet-end c = let h = fits c.args.text.now c.args.memory.now c.in-Ok.size c.read_line.new.memory c.in-Ok.ensures in search rules
+pub returns-in_err-size : goal.returns-in_err-size
+returns-in_err-size c =
+    let p = err_from_is_err_and c.from_residual.result c.from_residual.ensures.1 in
+    fault_answered c.args.text.now c.args.memory.now _ c.read_line.new.memory _ c.requires c.in_err-size.ensures (ap telling p.1 ∙ p.2)
 
-pub answer_sheet-requires : goal.answer_sheet-requires
-answer_sheet-requires c = simp length-take (omega (arith, c.requires, c.read_line.auto.memory))
+pub returns-in_err-found : goal.returns-in_err-found
+returns-in_err-found c =
+    let p = err_from_is_err_and c.from_residual-in_err-found.result c.from_residual-in_err-found.ensures.1 in
+    rw (p.1, p.2) (refused_answered c.args.text.now c.args.memory.now c.in_ok-size.size c.read_line.new.memory (replicate 16384 0) c.rewrite.new.memory c.in_ok-size.ensures _ (omega (arith, c.read_line.auto.memory, c.requires)) c.in_err-found.ensures)
 
-pub returns-in-Ok : goal.returns-in-Ok
-returns-in-Ok c =
-    let n = c.in-Ok.size in
-    let cut : n - 0 ≡ n = omega arith in
-    answered c.args.text.now c.args.memory.now n (n - 0) c.read_line.new.memory _ c.in-Ok.ensures cut c.answer_sheet.ensures
-
-pub returns-in-Err : goal.returns-in-Err
-returns-in-Err c = fault_answered c.args.text.now c.args.memory.now c.in-Err.fault c.read_line.new.memory _ c.requires c.in-Err.ensures c.answer_fault.ensures
+pub returns : goal.returns
+returns c =
+    accepted_answered c.args.text.now c.args.memory.now c.in_ok-size.size c.read_line.new.memory (replicate 16384 0) c.rewrite.new.memory c.in_ok-size.ensures (sheeting c.in_ok-found.found) c.in_ok-found.ensures

@@ -1,7 +1,12 @@
-use Rattle.std.proofs.Common.{◌≡◌, ◌*◌, ◌++◌, take, drop}
-use Rattle.texts.specs.Hexes.{paired}
+use Rattle.std.proofs.Common.{◌≡◌}
+use Rattle.std.specs.Iterator.Adapters.{enumerate_count, enumerate_source}
+use Rattle.std.specs.Slice.Iter.{chunks_exact_rest, chunks_exact_size}
+use Rattle.texts.proofs.Hexes.{Filled}
 use Rattle.texts.proofs.hex.fill.Given as goal
 
--- the octets so far, then those of the text that is left; behind them the memory is as it was
 abbrev pub invariant-loop-i : goal.invariant-loop-i
-invariant-loop-i l = (take l.i l.memory ++ paired (drop (2 * l.i) l.text) ≡ paired l.text) × (drop l.i l.memory ≡ drop l.i l.initial.memory)
+invariant-loop-i l =
+    goal.iterator-loop-i.can_next l.i-iterator
+    × goal.iterator-loop-i.is_finite l.i-iterator
+    × (chunks_exact_size (enumerate_source l.i-iterator) ≡ 2)
+    × Filled l.fn.text l.initial.memory (enumerate_count l.i-iterator) (chunks_exact_rest (enumerate_source l.i-iterator)) l.memory

@@ -1,22 +1,13 @@
-use Rattle.std.proofs.Common.{is_ok, ap, arith}
-use Rattle.std.proofs.lemmas.List.{take_all}
-use Rattle.std.proofs.Output.{has_written_of_eq, has_written_append, writes_in_calls_nil}
-use Rattle.texts.proofs.Hexes.{hex_step}
+use Rattle.std.proofs.Common.{IfSome, subst, is_ok, ap, rules}
+use Rattle.std.specs.Fmt.{WritesOnOk}
+use Rattle.std.proofs.lemmas.Grind.{put_two}
+use Rattle.texts.proofs.Hexes.{hex_more, two_digits}
 use Rattle.texts.proofs.hex.write_digits.Goals as goal
-
-pub loop-octet-init : goal.loop-octet-init
-loop-octet-init g c plain = record { wrote = writes_in_calls_nil g.W.Write.write_str_gives _; plain = plain }
 
 pub loop-octet-preserved : goal.loop-octet-preserved
 loop-octet-preserved g c plain =
     let took = g.W.Write.write_str_gives in
-    let xs = c.args.octets.now in
-    let i = c.loop-octet.octet-index in
     let so_far = c.loop-octet.invariant plain in
-    let high = c.write_char.ensures.writes so_far.plain (ap is_ok c.in_ok-write_char.was) in
-    let low = c.write_char-in-loop-octet.ensures.writes high.plain (ap is_ok c.in_ok-write_char-2.was) in
-    has_written_of_eq took _ _ _ _ (hex_step xs i _ _ c.loop-octet-test.true (omega arith) c.digit_of.ensures c.digit_of-in-loop-octet.ensures)
-    (has_written_append took _ _ _ _ _ (has_written_append took _ _ _ _ _ so_far high) low)
-
-pub returns : goal.returns
-returns g c plain ok = rw (take_all _ _ c.loop-octet-test.false) at (c.loop-octet.invariant plain)
+    let two = two_digits _ c.in_radix.result _ (search rules) c.in_radix.ensures c.laid_out.ensures in
+    let written = subst (λ o. IfSome o (λ bs. WritesOnOk took c.loop-octet.f c.write.result bs c.write.new.self)) two c.write.ensures.writes in
+    put_two took _ _ _ _ _ _ so_far (written so_far.plain (ap is_ok c.in_ok-write.was)) (hex_more c.args.octets.now c.loop-octet.octet-index c.loop-octet-test.true)
