@@ -2,6 +2,7 @@
 use Rattle.std.specs.Prelude.{◌≡◌, ℕ, List, ◌++◌, take, Ok, Err, codes, Result, ◌≢◌}
 use Rattle.terms.specs.declared.refusal.Refusal.{Refusal}
 use Rattle.terms.specs.declared.refusal.Refusal.TheVariants.{SheetSize}
+use Rattle.rules.specs.Lists.{listed}
 use Rattle.rules.specs.Rules.{Said}
 use Rattle.sheets.specs.Reading.{sheet_from}
 use Rattle.sheets.specs.Sets.{rules_of}
@@ -23,9 +24,9 @@ pub data Told : Type 0 where
   bad_hex : Told
   bad_command : Told
 
--- what was written: the first `size` of the array
+-- what was written
 abbrev pub written_in : Accepted → List ℕ
-written_in a = take a.size a.written
+written_in a = listed a.written
 
 abbrev pub telling : Result Accepted NotAccepted → Told
 telling (Ok a) = accepted (written_in a) a.found.heading (rules_of a.found.rules)

@@ -8,18 +8,16 @@ ghost use Rattle.texts.specs.declared.carrying.NotAccepted.TheVariants.{Refused}
 use crate::command::{LineFault, read_line};
 use crate::hex::HexFault;
 use crate::sheet::SheetWords;
-use rules::Rule;
+use rules::{AtMost, Rule};
 use sheets::{LIMIT, Sheet, rewrite};
 use std::fmt;
 use terms::{Refusal, front};
 
-// An accepted sheet: what it was read as, and its octets as they were written
-// again, the first `size` of the array.
+// An accepted sheet: what it was read as, and its octets as they were written again.
 #[derive(Clone, Copy)]
 pub struct Accepted {
     found: Sheet,
-    written: [u8; LIMIT],
-    size: usize,
+    written: AtMost<u8, LIMIT>,
 }
 
 impl Accepted {
@@ -27,7 +25,7 @@ impl Accepted {
     pub fn octets(&self) -> &[u8]
         ensures { result.now ≡ written_in self.now }
     {
-        front(&self.written, self.size)
+        self.written.as_slice()
     }
 
     // Those of the heading.
@@ -121,11 +119,8 @@ fn carry_out_in(text: &[u8], memory: &mut [u8]) -> Result<Accepted, NotAccepted>
     ensures { Answers text.now (telling result) }
 {
     let size = read_line(text, memory)?;
-    let mut written = [0; LIMIT];
-    let found = rewrite(&memory[..size], &mut written)?;
-    Ok(Accepted {
-        found,
-        written,
-        size,
-    })
+    let mut array = [0; LIMIT];
+    let found = rewrite(&memory[..size], &mut array)?;
+    let written = AtMost { array, count: size };
+    Ok(Accepted { found, written })
 }
