@@ -1,12 +1,14 @@
 // Access descriptors in octets.
 ghost use Rattle.std.specs.Prelude.{◌≡◌, ◌≤◌, length};
 ghost use Rattle.std.specs.Option.{option_to_list};
+ghost use Rattle.terms.specs.Replies.{found_or};
+ghost use Rattle.terms.specs.declared.refusal.Refusal.TheVariants as refusal;
 ghost use Rattle.layouts.specs.Layout.{mode_code, information, descriptor_octets};
 ghost use Rattle.layouts.specs.Reading.{active_from, priority_from, mode_from, descriptor_from};
 
 use crate::memory::InOctets;
 use rules::{Descriptor, Functionality, Mode};
-use terms::Access;
+use terms::{Access, Refusal};
 
 fn active_from(information: u8) -> Option<Mode>
     ensures { result ≡ active_from information }
@@ -42,18 +44,18 @@ fn mode_from(code: u8, information: &[u8]) -> Option<Mode>
     }
 }
 
-pub(crate) fn read_descriptor(octets: &[u8]) -> Option<Descriptor>
-    ensures { result ≡ descriptor_from octets.now }
+pub(crate) fn read_descriptor(octets: &[u8]) -> Result<Descriptor, Refusal>
+    ensures { result ≡ found_or (descriptor_from octets.now) refusal.Descriptor }
 {
     let [length, functionality, mode, information @ ..] = octets else {
-        return None;
+        return Err(Refusal::Descriptor);
     };
     if usize::from(*length) != octets.len() {
-        return None;
+        return Err(Refusal::Descriptor);
     }
-    Some(Descriptor {
-        functionality: Functionality::try_from(*functionality).ok()?,
-        mode: mode_from(*mode, information)?,
+    Ok(Descriptor {
+        functionality: Functionality::try_from(*functionality)?,
+        mode: mode_from(*mode, information).ok_or(Refusal::Descriptor)?,
     })
 }
 

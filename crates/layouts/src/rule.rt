@@ -78,7 +78,7 @@ fn read_framed(frame: Frame, octets: &[u8], met: &Precedences) -> Result<RuleRea
     } = frame;
     let end = 5 + length;
     let components = read_components(&octets[5..end])?;
-    let descriptor = read_descriptor(&octets[end..size]).ok_or(Refusal::Descriptor)?;
+    let descriptor = read_descriptor(&octets[end..size])?;
     if met.contains(precedence) {
         return Err(Refusal::Precedence);
     }

@@ -6,9 +6,5 @@ pub fn front<T>(items: &[T], count: usize) -> &[T]
     ensures value { result.now ≡ take count items.now }
     ensures bound { length result.now ≤ length items.now }
 {
-    if count < items.len() {
-        &items[0..count]
-    } else {
-        items
-    }
+    &items[..count.min(items.len())]
 }

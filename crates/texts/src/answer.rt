@@ -4,6 +4,7 @@ ghost use Rattle.texts.specs.Answers.{Answers, telling};
 ghost use Rattle.texts.specs.Replies.{Replies};
 
 use crate::carrying::{Accepted, NotAccepted, carry_out};
+use crate::words::Words;
 use std::alloc::{AllocError, Global};
 
 // The answer, with no line end behind it.
@@ -17,8 +18,5 @@ pub fn reply(heap: Global, line: &[u8]) -> Result<String, AllocError>
 fn printed(heap: Global, answer: Result<Accepted, NotAccepted>) -> Result<String, AllocError>
     ensures { (line : List ℕ) → Answers line (telling answer) → IfOk result (λ s. Replies line (string_bytes s)) }
 {
-    match answer {
-        Ok(accepted) => format!(in heap; "{accepted}"),
-        Err(fault) => format!(in heap; "{fault}"),
-    }
+    format!(in heap; "{}", Words(answer))
 }

@@ -8,6 +8,7 @@ ghost use Rattle.texts.specs.declared.carrying.NotAccepted.TheVariants.{Refused}
 use crate::command::{LineFault, read_line};
 use crate::hex::HexFault;
 use crate::sheet::SheetWords;
+use crate::words::Words;
 use rules::{AtMost, Rule};
 use sheets::{LIMIT, Sheet, rewrite};
 use std::fmt;
@@ -101,6 +102,18 @@ impl fmt::Display for NotAccepted {
                 "no hex: two of the digits 0-9 and A-F for each octet, one octet or more",
             ),
             NotAccepted::NoCommand => f.write_str("no command: S, one space and a sheet in hex"),
+        }
+    }
+}
+
+// What `{}` writes of an answer.
+impl fmt::Display for Words<Result<Accepted, NotAccepted>> {
+    ghost output = { λ x. Some (told_words (telling x.0)) };
+
+    fn fmt<W: fmt::Write>(&self, f: &mut fmt::Formatter<W>) -> fmt::Result {
+        match &self.0 {
+            Ok(accepted) => write!(f, "{accepted}"),
+            Err(fault) => write!(f, "{fault}"),
         }
     }
 }

@@ -30,7 +30,7 @@ fn before_group(i: usize) -> &'static str
     if i == 0 { "" } else { ":" }
 }
 
-// What `{}` writes of a rule or a part of one.
+// What `{}` writes of what has no `{}` of its own.
 #[derive(Clone, Copy)]
 pub struct Words<T>(pub T);
 

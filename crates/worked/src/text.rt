@@ -1,9 +1,8 @@
 // Octets as text, and what lines are answered.
 #[cfg(test)]
 mod tests {
-    use std::alloc::{AllocError, Global};
     use std::test::Fail;
-    use texts::{Accepted, Hex, HexFault, NotAccepted, carry_out, read_hex, reply};
+    use texts::{Hex, HexFault, Words, carry_out, read_hex, reply};
 
     // A text, and the octets that it stands for.
     const PRINTED: [(&str, &[u8]); 3] = [
@@ -89,21 +88,13 @@ mod tests {
         (" S 00", NO_COMMAND),
     ];
 
-    // An answer in words.
-    fn words(heap: Global, answer: Result<Accepted, NotAccepted>) -> Result<String, AllocError> {
-        match answer {
-            Ok(accepted) => format!(in heap; "{accepted}"),
-            Err(fault) => format!(in heap; "{fault}"),
-        }
-    }
-
     #[test]
     fn lines_are_answered(rt: HostRuntime) -> Result<(), Fail> {
         let heap = rt.alloc();
         for (line, wanted) in ANSWERS {
             assert_eq!(rt; reply(heap, line.as_bytes())?.as_str(), wanted);
-            let answer = carry_out(line.as_bytes());
-            assert_eq!(rt; words(heap, answer)?.as_str(), wanted);
+            let answer = Words(carry_out(line.as_bytes()));
+            assert_eq!(rt; format!(in heap; "{answer}")?.as_str(), wanted);
         }
         Ok(())
     }
@@ -120,17 +111,15 @@ mod tests {
         let heap = rt.alloc();
         for (size, wanted) in LONG {
             let mut command = String::from_str(heap, "S ")?;
-            for _ in 0..size {
-                command.push_str("00")?;
-            }
+            command.push_str("00".repeat(heap, size)?.as_str())?;
             assert_eq!(rt;
                 reply(heap, command.as_bytes())?.as_str(),
                 wanted,
                 "{}",
                 size
             );
-            let answer = carry_out(command.as_bytes());
-            assert_eq!(rt; words(heap, answer)?.as_str(), wanted, "{}", size);
+            let answer = Words(carry_out(command.as_bytes()));
+            assert_eq!(rt; format!(in heap; "{answer}")?.as_str(), wanted, "{}", size);
             command.push_str("0")?;
             assert_eq!(rt;
                 reply(heap, command.as_bytes())?.as_str(),
@@ -138,8 +127,8 @@ mod tests {
                 "{}",
                 size
             );
-            let answer = carry_out(command.as_bytes());
-            assert_eq!(rt; words(heap, answer)?.as_str(), NO_HEX, "{}", size);
+            let answer = Words(carry_out(command.as_bytes()));
+            assert_eq!(rt; format!(in heap; "{answer}")?.as_str(), NO_HEX, "{}", size);
         }
         Ok(())
     }
