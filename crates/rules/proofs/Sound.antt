@@ -1,7 +1,10 @@
 -- Laws of soundness: numbers that differ, components that stand together, and how many of them can.
-use Rattle.std.proofs.Common.{◌≡◌, ℕ, suc, ◌≤◌, true, false, cond, not, eqb, List, [], ◌∷◌, ◌++◌, map, length, sym, refl, ap, ◌∙◌, ⊎_elim, arith}
+use Rattle.std.proofs.Common.{◌≡◌, ℕ, ◌≤◌, true, false, not, ◌||◌, eqb, List, [], ◌∷◌, ◌++◌, map, length, sym, refl, ap, ◌∙◌, ⊎_elim, arith}
+use Rattle.std.specs.List.{AllByRecursion, IsDistinct, list_any}
+use Rattle.std.proofs.lemmas.Cmp.{nat_eq_equiv}
 use Rattle.std.proofs.lemmas.List.{length-map}
-use Rattle.std.proofs.lemmas.Bool.{and_from, and_parts, cond_both, eqb-true, false≢true, ne_eqb, eq-eqb, not_from_false, not-true, or_cases, or_from, or_left, or_parts, or_right}
+use Rattle.std.proofs.lemmas.Map.Made.{length-le_from_is_member}
+use Rattle.std.proofs.lemmas.Bool.{and_from, and_parts, eqb-true, false≢true, ne_eqb, eq-eqb, not_from_false, not-true, or_cases, or_from, or_parts}
 use Rattle.rules.specs.Components.{type_of, kind_in}
 use Rattle.rules.specs.Rules.{elem, every, distinct, types_in, all_alone}
 use Rattle.rules.specs.declared.component.Component.{Component}
@@ -24,41 +27,27 @@ distinct_push (y ∷ ys) x d e =
 
 -- ---- numbers that differ, all of them among others, are no more than those
 
-erase : ℕ → List ℕ → List ℕ
-erase x [] = []
-erase x (y ∷ ys) = cond (eqb x y) ys (y ∷ erase x ys)
+elem_any : (n : ℕ) (xs : List ℕ) → elem n xs ≡ list_any (eqb n) xs
+elem_any n [] = refl
+elem_any n (x ∷ xs) = ap (λ b. eqb n x || b) (elem_any n xs)
 
-length-erase : (x : ℕ) (ys : List ℕ) → elem x ys ≡ true → suc (length (erase x ys)) ≡ length ys
-unfolding erase
-length-erase x [] e = absurd (false≢true e)
-length-erase x (y ∷ ys) e =
-    cond_both (eqb x y) ys (y ∷ erase x ys) (λ l. suc (length l) ≡ suc (length ys))
-    (λ p. refl)
-    (λ p. ap suc (length-erase x ys (⊎_elim (λ q. absurd (false≢true (sym p ∙ q))) (λ q. q) (or_cases (eqb x y) (elem x ys) e))))
+apart : (x : ℕ) (ys : List ℕ) → elem x ys ≡ false → AllByRecursion (λ y. eqb x y ≡ false) ys
+apart x [] e = tt
+apart x (y ∷ ys) e = let p = or_parts (eqb x y) (elem x ys) e in (p.0, apart x ys p.1)
 
-elem-erase : (z x : ℕ) (ys : List ℕ) → eqb z x ≡ false → elem z ys ≡ true → elem z (erase x ys) ≡ true
-unfolding erase
-elem-erase z x [] n e = e
-elem-erase z x (y ∷ ys) n e =
-    let found = or_cases (eqb z y) (elem z ys) e in
-    cond_both (eqb x y) ys (y ∷ erase x ys) (λ l. elem z l ≡ true)
-    (λ p. ⊎_elim (λ q. absurd (false≢true (sym n ∙ eq-eqb z x (eqb-true z y q ∙ sym (eqb-true x y p))))) (λ q. q) found)
-    (λ p. ⊎_elim (λ q. or_left _ _ q) (λ q. or_right _ _ (elem-erase z x ys n q)) found)
+differ : (xs : List ℕ) → distinct xs ≡ true → IsDistinct eqb xs
+unfolding IsDistinct
+differ [] d = tt
+differ (x ∷ xs) d = let p = and_parts (not (elem x xs)) (distinct xs) d in (apart x xs (not-true _ p.0), differ xs p.1)
 
-every-erase : (x : ℕ) (xs ys : List ℕ) → elem x xs ≡ false → every (λ z. elem z ys) xs ≡ true → every (λ z. elem z (erase x ys)) xs ≡ true
-every-erase x [] ys n e = refl
-every-erase x (z ∷ xs) ys n e =
-    let p = and_parts (elem z ys) (every (λ w. elem w ys) xs) e in
-    let q = or_parts (eqb x z) (elem x xs) n in
-    and_from _ _ (elem-erase z x ys (eqb_flip x z q.0) p.0) (every-erase x xs ys q.1 p.1)
+among : (q : ℕ) (xs ys : List ℕ) → every (λ z. elem z ys) xs ≡ true → elem q xs ≡ true → elem q ys ≡ true
+among q [] ys e m = absurd (false≢true m)
+among q (x ∷ xs) ys e m =
+    let p = and_parts (elem x ys) (every (λ z. elem z ys) xs) e in
+    ⊎_elim (λ same. ap (λ n. elem n ys) (eqb-true q x same) ∙ p.0) (λ more. among q xs ys p.1 more) (or_cases (eqb q x) (elem q xs) m)
 
 pub few_of : (xs ys : List ℕ) → distinct xs ≡ true → every (λ z. elem z ys) xs ≡ true → length xs ≤ length ys
-few_of [] ys d e = omega arith
-few_of (x ∷ xs) ys d e =
-    let p = and_parts (not (elem x xs)) (distinct xs) d in
-    let q = and_parts (elem x ys) (every (λ w. elem w ys) xs) e in
-    let less = few_of xs (erase x ys) p.1 (every-erase x xs ys (not-true _ p.0) q.1) in
-    omega (arith, length-erase x ys q.0)
+few_of xs ys d e = length-le_from_is_member nat_eq_equiv xs ys (differ xs d) (λ q m. sym (elem_any q ys) ∙ among q xs ys e (elem_any q xs ∙ m))
 
 -- ---- components
 
