@@ -1,15 +1,10 @@
 -- Laws of octets that are joined from those of each element of a list.
-use Rattle.std.proofs.Common.{◌≡◌, ℕ, ◌+◌, ◌<◌, ◌≤◌, List, [], ◌∷◌, ◌++◌, map, length, get_or, take, sym, refl, ap, ◌∙◌, arith}
+use Rattle.std.proofs.Common.{◌≡◌, ℕ, ◌+◌, ◌<◌, ◌≤◌, List, [], ◌++◌, length, get_or, take, sym, ap, ◌∙◌, arith}
 use Rattle.std.specs.List.{flat_map}
 use Rattle.std.proofs.lemmas.List.{flat_map_more, length-append, take_more}
 use Rattle.std.proofs.lemmas.List.Folds.{length-flat_map-take}
 use Rattle.layouts.specs.Memory.{written}
 use Rattle.layouts.proofs.Writes.{written_then}
-
--- the elements seen through g first
-pub joined_map : {X Y : Type 0} (f : Y → List ℕ) (g : X → Y) (xs : List X) → flat_map (λ x. f (g x)) xs ≡ flat_map f (map g xs)
-joined_map f g [] = refl
-joined_map f g (x ∷ xs) = ap (λ l. f (g x) ++ l) (joined_map f g xs)
 
 -- the octets of the first i elements stand in the memory from a place on, up to `end`
 pub record Placed {X : Type 0} (f : X → List ℕ) (xs : List X) (at : ℕ) (m₀ : List ℕ) (i end : ℕ) (m : List ℕ) : Type 0 where

@@ -2,6 +2,7 @@
 use Rattle.std.proofs.Common.{◌≡◌, ℕ, zero, suc, Bool, true, false, cond, not, eqb, ◌⊎◌, List, [], ◌∷◌, ◌++◌, length, take, drop, Some, Ok, Option, sym, refl, ap, ◌∙◌, inl, inr, ⊎_elim, append_assoc, append-nil, arith}
 use Rattle.std.proofs.lemmas.List.{drop_all, drop_at, take_at, length-append, length-take-le, take-append-drop, map-append}
 use Rattle.std.proofs.lemmas.Bool.{and_from, and_parts, eqb-true, not-true, or_cases, or_from, or_parts}
+use Rattle.std.proofs.lemmas.Option.{none-some}
 use Rattle.octets.specs.Numbers.{Octets}
 use Rattle.octets.proofs.Numbers.{octets_take}
 use Rattle.terms.proofs.Replies.{after_ok, after_inv}
@@ -34,7 +35,7 @@ pick false y x o e = inr (refl, e)
 
 -- the first that passes a test passes it
 first_passes : {A : Type 0} (f : A → Bool) (xs : List A) (x : A) → first f xs ≡ Some x → f x ≡ true
-first_passes f [] x e = absurd (let z : ◌≡◌ {A = ℕ} 0 1 = cc in omega arith)
+first_passes f [] x e = absurd (none-some _ e)
 first_passes f (y ∷ ys) x e = ⊎_elim (λ q. ap f (sym q.1) ∙ q.0) (λ q. first_passes f ys x q.1) (pick (f y) y x (first f ys) e)
 
 kind_type : (t : ℕ) (k : Kind) → kind_of t ≡ Some k → type_of k ≡ t

@@ -15,5 +15,5 @@ abbrev pub ruling : RuleRead → Said × ℕ
 ruling r = (saying r.rule, r.size)
 
 -- rules one behind the other, each by what it says
-abbrev pub rules_octets : List Rule → List ℕ
-rules_octets rs = flat_map (λ r. rule_octets (saying r)) rs
+abbrev pub octets_of_rules : List Rule → List ℕ
+octets_of_rules rs = flat_map (λ r. rule_octets (saying r)) rs

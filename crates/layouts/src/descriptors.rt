@@ -1,12 +1,12 @@
 // Access descriptors in octets.
-ghost use Rattle.std.specs.Prelude.{◌≡◌, ◌≤◌, length};
+ghost use Rattle.std.specs.Prelude.{◌≡◌};
 ghost use Rattle.std.specs.Option.{option_to_list};
 ghost use Rattle.terms.specs.Replies.{found_or};
 ghost use Rattle.terms.specs.declared.refusal.Refusal.TheVariants as refusal;
 ghost use Rattle.layouts.specs.Layout.{mode_code, information, descriptor_octets};
 ghost use Rattle.layouts.specs.Reading.{active_from, priority_from, mode_from, descriptor_from};
 
-use crate::memory::InOctets;
+use crate::memory::{InOctets, Measured};
 use rules::{Descriptor, Functionality, Mode};
 use terms::{Access, Refusal};
 
@@ -23,6 +23,7 @@ fn active_from(information: u8) -> Option<Mode>
     Some(Mode::ActiveStandby { active, standby })
 }
 
+// By a `match`: with `ok()?` the proof was not found.
 fn priority_from(information: u8) -> Option<Mode>
     ensures { result ≡ priority_from information }
 {
@@ -111,13 +112,13 @@ impl InOctets for Descriptor {
     }
 }
 
-// How many octets the descriptor has.
-pub(crate) fn descriptor_size(descriptor: Descriptor) -> usize
-    ensures value { result ≡ length (descriptor_octets descriptor) }
-    ensures bound { result ≤ 4 }
-{
-    match information_of(descriptor.mode) {
-        Some(_) => 4,
-        None => 3,
+impl Measured for Descriptor {
+    ghost most = { 4 };
+
+    fn size(&self) -> usize {
+        match information_of(self.mode) {
+            Some(_) => 4,
+            None => 3,
+        }
     }
 }

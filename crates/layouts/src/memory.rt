@@ -1,5 +1,5 @@
 // Octets written into memory.
-ghost use Rattle.std.specs.Prelude.{◌≡◌, ℕ, ◌+◌, ◌*◌, ◌^◌, ◌<◌, ◌≤◌, List, ◌++◌, length};
+ghost use Rattle.std.specs.Prelude.{◌≡◌, ℕ, ◌+◌, ◌-◌, ◌*◌, ◌^◌, ◌<◌, ◌≤◌, List, ◌++◌, length};
 ghost use Rattle.std.specs.List.{flat_map};
 ghost use Rattle.rules.specs.Lists.{listed};
 ghost use Rattle.layouts.specs.Memory.{written, Writes};
@@ -54,7 +54,7 @@ impl<T: InOctets, const N: usize> InOctets for AtMost<T, N> {
     ghost octets = { λ items. flat_map T.octets (listed items) };
 
     fn place(&self, memory: &mut [u8], at: usize) -> usize {
-        // no `fold`, since a closure that writes the memory tells nothing of it
+        // by a loop: of memory that a closure writes nothing is known afterwards
         let mut end = at;
         for item in self.as_slice() {
             end = item.place(memory, end);
@@ -73,13 +73,21 @@ pub(crate) trait Measured: InOctets {
         ensures bound { result ≤ most };
 }
 
+impl Measured for &[u8] {
+    ghost most = { 2 ^ 64 - 1 };
+
+    fn size(&self) -> usize {
+        self.len()
+    }
+}
+
 // How many octets all of them have.
 pub(crate) fn size_of_all<T: Measured>(items: &[T]) -> usize
     requires { T.most * length items.now < 2 ^ 64 }
     ensures value { result ≡ length (flat_map T.octets items.now) }
     ensures bound { result ≤ T.most * length items.now }
 {
-    // no `sum`, of which it is not found that it fits
+    // by a loop: each item tells only its own bound, and `sum` asks beforehand that all of them fit
     let mut size = 0;
     for item in items {
         size += item.size();
@@ -87,17 +95,11 @@ pub(crate) fn size_of_all<T: Measured>(items: &[T]) -> usize
     size
 }
 
-// Writes what has so many octets into the memory from a place on, all of it or nothing.
-pub(crate) fn write<T: InOctets>(
-    item: &T,
-    size: usize,
-    memory: &mut [u8],
-    at: usize,
-) -> Result<usize, Refusal>
-    requires { size ≡ length (T.octets item.now) }
+// Writes it into the memory from a place on, all of it or nothing, and gives the place behind it.
+pub(crate) fn write<T: Measured>(item: &T, memory: &mut [u8], at: usize) -> Result<usize, Refusal>
     ensures { Writes at (T.octets item.now) memory.old result memory.new }
 {
-    if at > memory.len() || memory.len() - at < size {
+    if at > memory.len() || memory.len() - at < item.size() {
         return Err(Refusal::Memory);
     }
     Ok(item.place(memory, at))
@@ -107,5 +109,5 @@ pub(crate) fn write<T: InOctets>(
 pub fn write_octets(octets: &[u8], memory: &mut [u8], at: usize) -> Result<usize, Refusal>
     ensures { Writes at octets.now memory.old result memory.new }
 {
-    write(&octets, octets.len(), memory, at)
+    write(&octets, memory, at)
 }

@@ -7,10 +7,10 @@ ghost use Rattle.layouts.specs.Layout.{rule_body, rule_octets};
 ghost use Rattle.layouts.specs.Memory.{Writes};
 ghost use Rattle.layouts.specs.Precedence.{has};
 ghost use Rattle.layouts.specs.Reading.{frame_from, rule_from};
-ghost use Rattle.layouts.specs.Rule.{framing, ruling, rules_octets};
+ghost use Rattle.layouts.specs.Rule.{framing, ruling, octets_of_rules};
 
 use crate::components::read_components;
-use crate::descriptors::{descriptor_size, read_descriptor};
+use crate::descriptors::read_descriptor;
 use crate::memory::{InOctets, Measured, size_of_all, write};
 use crate::precedences::Precedences;
 use octets::{number_of, octets_of};
@@ -103,7 +103,7 @@ fn body_size(rule: &Rule) -> usize
     ensures value { result ≡ length (rule_body (saying rule.now)) }
     ensures bound { result ≤ 151 }
 {
-    3 + size_of_all(rule.components.as_slice()) + descriptor_size(rule.descriptor)
+    3 + size_of_all(rule.components.as_slice()) + rule.descriptor.size()
 }
 
 impl InOctets for Rule {
@@ -125,24 +125,32 @@ impl Measured for Rule {
     }
 }
 
+impl Measured for Rules {
+    ghost most = { 19584 };
+
+    fn size(&self) -> usize {
+        size_of_all(self.as_slice())
+    }
+}
+
 // Writes the rule into the memory from a place on, and gives the place behind it.
 pub fn write_rule(rule: &Rule, memory: &mut [u8], at: usize) -> Result<usize, Refusal>
     ensures { Writes at (rule_octets (saying rule.now)) memory.old result memory.new }
 {
-    write(rule, rule_size(rule), memory, at)
+    write(rule, memory, at)
 }
 
 // How many octets the rules have.
 pub fn rules_size(rules: &Rules) -> usize
-    ensures value { result ≡ length (rules_octets (listed rules.now)) }
+    ensures value { result ≡ length (octets_of_rules (listed rules.now)) }
     ensures bound { result ≤ 19584 }
 {
-    size_of_all(rules.as_slice())
+    rules.size()
 }
 
 // Writes the rules into the memory from a place on, and gives the place behind them.
 pub fn write_rules(rules: &Rules, memory: &mut [u8], at: usize) -> Result<usize, Refusal>
-    ensures { Writes at (rules_octets (listed rules.now)) memory.old result memory.new }
+    ensures { Writes at (octets_of_rules (listed rules.now)) memory.old result memory.new }
 {
-    write(rules, rules_size(rules), memory, at)
+    write(rules, memory, at)
 }

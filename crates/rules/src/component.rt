@@ -8,18 +8,18 @@ ghost use Rattle.rules.specs.declared.component.Component.TheVariants.{MatchAll}
 use crate::at_most::{AtMost, Item};
 use terms::Refusal;
 
-// The nine types of component.
+// The nine types of component, by the octets that name them in a sheet.
 #[derive(Clone, Copy, PartialEq, Eq, Debug)]
 pub enum Kind {
-    MatchAll,
-    Ipv4,
-    Ipv6,
-    Protocol,
-    Port,
-    PortRange,
-    SecurityIndex,
-    ServiceType,
-    FlowLabel,
+    MatchAll = 0x01,
+    Ipv4 = 0x10,
+    Ipv6 = 0x21,
+    Protocol = 0x30,
+    Port = 0x50,
+    PortRange = 0x51,
+    SecurityIndex = 0x60,
+    ServiceType = 0x70,
+    FlowLabel = 0x80,
 }
 
 #[derive(Clone, Copy, Debug, PartialEq, Eq)]
@@ -40,17 +40,7 @@ impl From<Kind> for u8 {
     ghost from_gives = { λ kind code. code ≡ type_of kind };
 
     fn from(kind: Kind) -> u8 {
-        match kind {
-            Kind::MatchAll => 0x01,
-            Kind::Ipv4 => 0x10,
-            Kind::Ipv6 => 0x21,
-            Kind::Protocol => 0x30,
-            Kind::Port => 0x50,
-            Kind::PortRange => 0x51,
-            Kind::SecurityIndex => 0x60,
-            Kind::ServiceType => 0x70,
-            Kind::FlowLabel => 0x80,
-        }
+        kind as u8
     }
 }
 

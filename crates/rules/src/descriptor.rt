@@ -9,9 +9,9 @@ use terms::{Access, Refusal};
 #[derive(Clone, Copy, PartialEq, Eq, Debug)]
 pub enum Functionality {
     // the only one that the device has
-    OnlyOne,
-    Mptcp,
-    AtsssLl,
+    OnlyOne = 1,
+    Mptcp = 2,
+    AtsssLl = 3,
 }
 
 // The octet by which a sheet names it.
@@ -19,11 +19,7 @@ impl From<Functionality> for u8 {
     ghost from_gives = { λ functionality code. code ≡ functionality_code functionality };
 
     fn from(functionality: Functionality) -> u8 {
-        match functionality {
-            Functionality::OnlyOne => 1,
-            Functionality::Mptcp => 2,
-            Functionality::AtsssLl => 3,
-        }
+        functionality as u8
     }
 }
 

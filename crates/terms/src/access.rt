@@ -7,8 +7,8 @@ use std::fmt;
 
 #[derive(Clone, Copy, PartialEq, Eq, Debug)]
 pub enum Access {
-    ThreeGpp,
-    NonThreeGpp,
+    ThreeGpp = 1,
+    NonThreeGpp = 2,
 }
 
 // Its code.
@@ -16,10 +16,7 @@ impl From<Access> for u8 {
     ghost from_gives = { λ access code. code ≡ code_of access };
 
     fn from(access: Access) -> u8 {
-        match access {
-            Access::ThreeGpp => 1,
-            Access::NonThreeGpp => 2,
-        }
+        access as u8
     }
 }
 

@@ -6,7 +6,7 @@ use std::fmt;
 
 #[derive(Clone, Copy, Debug, PartialEq, Eq)]
 pub enum Refusal {
-    SheetSize,
+    SheetSize = 1,
     RuleCount,
     Distance,
     Frame,
@@ -36,14 +36,15 @@ impl Refusal {
     pub fn number(self) -> u8
         ensures { result ≡ number_of self }
     {
-        self as u8 + 1
+        self as u8
     }
+}
 
-    // The texts alone, so that `{}` stays one line.
-    fn words(self) -> &'static str
-        ensures { result.now ≡ words_of self }
-    {
-        match self {
+impl fmt::Display for Refusal {
+    ghost output = { λ x. Some (words_of x) };
+
+    fn fmt<W: fmt::Write>(&self, f: &mut fmt::Formatter<W>) -> fmt::Result {
+        f.write_str(match self {
             Refusal::SheetSize => "a sheet has 3 to 16384 octets",
             Refusal::RuleCount => "a sheet has 1 to 128 rules",
             Refusal::Distance => "the distance goes back past the sheet",
@@ -68,14 +69,6 @@ impl Refusal {
             Refusal::Answer => "another transaction, a request not sent, or one answered before",
             Refusal::AnswerTime => "the answer is before the start or too late",
             Refusal::AnswersMissing => "an answer is missing",
-        }
-    }
-}
-
-impl fmt::Display for Refusal {
-    ghost output = { λ x. Some (words_of x) };
-
-    fn fmt<W: fmt::Write>(&self, f: &mut fmt::Formatter<W>) -> fmt::Result {
-        f.write_str(self.words())
+        })
     }
 }

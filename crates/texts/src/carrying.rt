@@ -127,8 +127,7 @@ pub fn carry_out(text: &[u8]) -> Result<Accepted, NotAccepted>
 }
 
 // Carries out a command, with memory for as many octets as a sheet has.
-fn carry_out_in(text: &[u8], memory: &mut [u8]) -> Result<Accepted, NotAccepted>
-    requires { length memory.old ≡ 16384 }
+fn carry_out_in(text: &[u8], memory: &mut [u8; LIMIT]) -> Result<Accepted, NotAccepted>
     ensures { Answers text.now (telling result) }
 {
     let size = read_line(text, memory)?;

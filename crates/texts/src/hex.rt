@@ -17,6 +17,7 @@ impl fmt::Display for Hex<'_> {
     }
 }
 
+// Apart from `{}`, since of octets behind a field it is not known that they are below 256.
 fn write_digits<W: fmt::Write>(f: &mut fmt::Formatter<W>, octets: &[u8]) -> fmt::Result
     ensures { WritesOnOk W.write_str_gives f.old result (hex_of octets.now) f.new }
 {
@@ -79,11 +80,13 @@ fn fill(memory: &mut [u8], text: &[u8])
     requires room { length text.now / 2 ≤ length memory.old }
     ensures { memory.new ≡ paired text.now ++ drop (length text.now / 2) memory.old }
 {
+    // the place by its number: of memory lent by `iter_mut().zip(..)` nothing is known afterwards
     for (i, pair) in text.chunks_exact(2).enumerate() {
         memory[i] = value_of(pair[0]) * 16 + value_of(pair[1]);
     }
 }
 
+// Of a digit alone; `to_digit` would take small letters too, and give an option.
 fn value_of(c: u8) -> u8
     requires { is_digit c ≡ true }
     ensures value { result ≡ value c }

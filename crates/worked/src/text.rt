@@ -48,10 +48,8 @@ mod tests {
     fn texts_that_are_no_octets(rt: HostRuntime) -> Result<(), Fail> {
         for (text, wanted) in FAULTS {
             let mut memory = [0xEEu8; 2];
-            match read_hex(text.as_bytes(), &mut memory) {
-                Ok(_) => return Err(Fail::new("read")),
-                Err(fault) => assert_eq!(rt; fault, wanted, "{}", text),
-            }
+            let answer = read_hex(text.as_bytes(), &mut memory);
+            assert_eq!(rt; answer, Err(wanted), "{}", text);
             assert!(rt; memory == [0xEE; 2]);
         }
         Ok(())

@@ -47,10 +47,12 @@ mod tests {
         assert_eq!(rt; found.rules.rule(0)?.precedence, 5);
         assert_eq!(rt; found.rules.rule(1)?.precedence, 6);
         for position in [2, 127, 128, usize::MAX] {
-            match found.rules.rule(position) {
-                Ok(_) => return Err(Fail::new("a rule where there is none")),
-                Err(refusal) => assert_eq!(rt; refusal, Refusal::Unknown, "{}", position),
-            }
+            assert_eq!(rt;
+                found.rules.rule(position),
+                Err(Refusal::Unknown),
+                "{}",
+                position
+            );
         }
         Ok(())
     }

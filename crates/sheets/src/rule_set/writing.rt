@@ -1,6 +1,6 @@
 // Writing a sheet.
 ghost use Rattle.std.specs.Prelude.{◌≡◌, ◌+◌, ◌≤◌, length, take, IfOk, Ok};
-ghost use Rattle.sheets.specs.Layout.{rules_octets};
+ghost use Rattle.sheets.specs.Layout.{rules_octets, sheet_octets};
 ghost use Rattle.layouts.specs.Memory.{Writes as WritesAt};
 ghost use Rattle.sheets.specs.Reading.{sheet_from};
 ghost use Rattle.sheets.specs.Sets.{rules_of};
@@ -27,7 +27,7 @@ pub fn write(set: &RuleSet, heading: &[u8], memory: &mut [u8]) -> Result<usize, 
     write_fitting(set, heading, memory)
 }
 
-// How many octets the rules have.
+// How many octets the rules have, which layouts tells of lists of rules.
 fn size_of_rules(set: &RuleSet) -> usize
     ensures value { result ≡ length (rules_octets (rules_of set.now)) }
     ensures bound { result ≤ 19584 }
@@ -35,25 +35,26 @@ fn size_of_rules(set: &RuleSet) -> usize
     rules_size(&set.table)
 }
 
-// Writes the rules into the memory from a place on, and gives the place behind them.
+// Writes the rules, as layouts does for lists of rules, and gives the place behind them.
 fn place_rules(set: &RuleSet, memory: &mut [u8], at: usize) -> Result<usize, Refusal>
     ensures { WritesAt at (rules_octets (rules_of set.now)) memory.old result memory.new }
 {
     write_rules(&set.table, memory, at)
 }
 
-// How many octets the sheet has.
+// How many octets the sheet has. Set and heading come as `write` is given them: a
+// struct of both would be made there only to be taken apart here.
 fn sheet_size(set: &RuleSet, heading: &[u8]) -> usize
     requires { length heading.now ≤ 16384 }
-    ensures { result ≡ length heading.now + length (rules_octets (rules_of set.now)) + 3 }
+    ensures { result ≡ length (sheet_octets heading.now (rules_of set.now)) }
 {
     heading.len() + size_of_rules(set) + 3
 }
 
 // Writes a sheet that fits.
 fn write_fitting(set: &RuleSet, heading: &[u8], memory: &mut [u8]) -> Result<usize, Refusal>
-    requires limit { length heading.now + length (rules_octets (rules_of set.now)) + 3 ≤ 16384 }
-    requires room { length heading.now + length (rules_octets (rules_of set.now)) + 3 ≤ length memory.old }
+    requires limit { length (sheet_octets heading.now (rules_of set.now)) ≤ 16384 }
+    requires room { length (sheet_octets heading.now (rules_of set.now)) ≤ length memory.old }
     ensures value { Writes heading.now (rules_of set.now) memory.old result memory.new }
     ensures back { IfOk result (λ n. sheet_from (take n memory.new) ≡ Ok (length heading.now, rules_of set.now)) }
 {
