@@ -106,5 +106,8 @@ impl Item for Component {
     const FULL: Refusal = Refusal::Components;
 }
 
+// The most components that a rule has.
+pub const MOST_COMPONENTS: usize = 8;
+
 // The components of a rule, in their order.
-pub type Components = AtMost<Component, 8>;
+pub type Components = AtMost<Component, MOST_COMPONENTS>;

@@ -8,6 +8,6 @@ pub mod descriptor;
 pub mod rule;
 
 pub use at_most::{AtMost, Item};
-pub use component::{Component, Components, Kind};
+pub use component::{Component, Components, Kind, MOST_COMPONENTS};
 pub use descriptor::{Descriptor, Functionality, Mode, share_of};
-pub use rule::{Rule, Rules};
+pub use rule::{MOST_RULES, Rule, Rules};

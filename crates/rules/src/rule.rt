@@ -7,7 +7,7 @@ ghost use Rattle.rules.specs.Rules.{empty_rule, saying, same_rule};
 ghost use Rattle.rules.specs.Same.{same_rule_equiv};
 
 use crate::at_most::{AtMost, Item};
-use crate::component::{Component, Components};
+use crate::component::{Component, Components, MOST_COMPONENTS};
 use crate::descriptor::{Descriptor, Functionality, Mode};
 use terms::Refusal;
 
@@ -47,7 +47,7 @@ impl Item for Rule {
     const BLANK: Rule = Rule {
         precedence: 0,
         components: Components {
-            array: [Component::MatchAll; 8],
+            array: [Component::MatchAll; MOST_COMPONENTS],
             count: 0,
         },
         descriptor: Descriptor {
@@ -61,5 +61,8 @@ impl Item for Rule {
     const FULL: Refusal = Refusal::RuleCount;
 }
 
+// The most rules that a sheet has.
+pub const MOST_RULES: usize = 128;
+
 // The rules of a sheet, in their order.
-pub type Rules = AtMost<Rule, 128>;
+pub type Rules = AtMost<Rule, MOST_RULES>;

@@ -9,7 +9,7 @@ ghost use Rattle.sheets.specs.Tables.{said};
 use crate::rule_set::RuleSet;
 use layouts::{Precedences, RuleRead, read_rule};
 use octets::number_of;
-use rules::Rules;
+use rules::{MOST_RULES, Rules};
 use terms::Refusal;
 
 // So many rules, and nothing behind them.
@@ -31,9 +31,6 @@ fn read_rules(octets: &[u8], count: usize) -> Result<Rules, Refusal>
     }
     Ok(rules)
 }
-
-// The most rules that a sheet has.
-const MOST: usize = 128;
 
 // The most octets that a sheet has.
 pub const LIMIT: usize = 16384;
@@ -64,7 +61,7 @@ fn read_within(octets: &[u8]) -> Result<Sheet, Refusal>
 {
     let trailer = octets.len() - 3;
     let count = usize::from(octets[trailer]);
-    if count == 0 || count > MOST {
+    if count == 0 || count > MOST_RULES {
         return Err(Refusal::RuleCount);
     }
     let distance = distance_in(octets);
