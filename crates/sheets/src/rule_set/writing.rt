@@ -27,7 +27,9 @@ pub fn write(set: &RuleSet, heading: &[u8], memory: &mut [u8]) -> Result<usize, 
     write_fitting(set, heading, memory)
 }
 
-// How many octets the rules have, which layouts tells of lists of rules.
+// How many octets the rules have. This and `place_rules` turn what is known of a list
+// of rules into what the rules say; within `rules_size` and `write_rules`, the edits
+// of those would be refused in a proof file first.
 fn size_of_rules(set: &RuleSet) -> usize
     ensures value { result ≡ length (rules_octets (rules_of set.now)) }
     ensures bound { result ≤ 19584 }
@@ -35,7 +37,7 @@ fn size_of_rules(set: &RuleSet) -> usize
     rules_size(&set.table)
 }
 
-// Writes the rules, as layouts does for lists of rules, and gives the place behind them.
+// Writes the rules from a place on, and gives the place behind them.
 fn place_rules(set: &RuleSet, memory: &mut [u8], at: usize) -> Result<usize, Refusal>
     ensures { WritesAt at (rules_octets (rules_of set.now)) memory.old result memory.new }
 {
