@@ -54,7 +54,7 @@ impl<T: InOctets, const N: usize> InOctets for AtMost<T, N> {
     ghost octets = { λ items. flat_map T.octets (listed items) };
 
     fn place(&self, memory: &mut [u8], at: usize) -> usize {
-        // by a loop: of memory that a closure writes nothing is known afterwards
+        // by a loop; tried: after `fold` nothing is known of the memory that its closure writes
         let mut end = at;
         for item in self.as_slice() {
             end = item.place(memory, end);
@@ -87,7 +87,7 @@ pub(crate) fn size_of_all<T: Measured>(items: &[T]) -> usize
     ensures value { result ≡ length (flat_map T.octets items.now) }
     ensures bound { result ≤ T.most * length items.now }
 {
-    // by a loop: each item tells only its own bound, and `sum` asks beforehand that all of them fit
+    // by a loop; tried: `sum` asks beforehand that all fit, and an item tells only its own bound
     let mut size = 0;
     for item in items {
         size += item.size();

@@ -22,7 +22,8 @@ pub fn octets_of<const N: usize>(number: u128) -> [u8; N]
 {
     let mut octets = [0; N];
     let mut rest = number;
-    // By index: a loop over `iter_mut().rev()` lends the array out, and its invariant cannot speak of it.
+    // By index. Tried: a loop over `iter_mut().rev()` lends the array out, and its invariant
+    // cannot speak of it.
     for i in (0..N).rev() {
         octets[i] = (rest % 256) as u8;
         rest /= 256;

@@ -19,7 +19,8 @@ pub struct Rule {
 }
 
 // Rules are equal where they say the same; what lies behind the count of
-// components is nothing that they say, so a derive would compare too much.
+// components is nothing that they say, so a derive would compare too much. Over an `==`
+// of the list it would not, but would have no clause that promises when it is true.
 impl PartialEq for Rule {
     ghost eq = { on saying same_rule };
 

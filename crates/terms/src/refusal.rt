@@ -32,7 +32,8 @@ pub enum Refusal {
 }
 
 impl Refusal {
-    // A method and no `From`: a refusal is no octet, and is only told by its number.
+    // A method and no `From`: every page names a refusal by its number, and a conversion
+    // would hide that word.
     pub fn number(self) -> u8
         ensures { result ≡ number_of self }
     {

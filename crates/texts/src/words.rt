@@ -24,7 +24,7 @@ impl fmt::Display for Grouped {
     }
 }
 
-// Apart from the loop, whose proof would have to take the choice apart.
+// Apart from the loop. Tried: within it, its proof would have to take the choice apart.
 fn before_group(i: usize) -> &'static str
     ensures { result.now ≡ colon i }
 {

@@ -35,8 +35,8 @@ fn say_the_same(left: &[Rule], right: &[Rule]) -> bool
     left == right
 }
 
-// Sets are equal where they say the same rules in the same order; a derive
-// would compare the places behind the last rule too.
+// Sets are equal where they say the same rules in the same order; a derive would
+// compare the places behind the last rule too, or have no clause that promises this.
 impl PartialEq for RuleSet {
     ghost eq = { on rules_of (pointwise same_rule) };
 
