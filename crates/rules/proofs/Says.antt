@@ -1,8 +1,6 @@
 -- Rules by what they say.
 use Rattle.std.proofs.Common.{◌≡◌, Bool, List, Decides, sym, ap, ◌∙◌}
 use Rattle.rules.specs.Rules.{Said}
-use Rattle.rules.specs.Same.{component_eq, same_component-Decides}
-use Rattle.rules.specs.contracts.component.ComponentPartialEq.TheImpl as ComponentPartialEq
 use Rattle.rules.specs.declared.component.Component.{Component}
 
 -- rules with equal precedence and descriptor say the same exactly where their components are equal
@@ -11,7 +9,3 @@ same_said x y r xs ys p q e f d = (
   (λ t. let cs : x.components ≡ y.components = sym p ∙ d.0 t ∙ q in λ i. record { precedence = e i; components = cs i; descriptor = f i }),
   λ same. d.1 (p ∙ ap (λ s. s.components) same ∙ sym q),
 )
-
--- the derived `==` of components decides whether they are equal
-pub component_eq-Decides : (x y : Component) → Decides (ComponentPartialEq.ghosts.eq x y) (x ≡ y)
-component_eq-Decides x y = rw (component_eq x y) (same_component-Decides x y)

@@ -57,3 +57,10 @@ component_eq x y = grind (arith, nat_tests)
 
 pub descriptor_eq : (x y : Descriptor) → DescriptorPartialEq.ghosts.eq x y ≡ same_descriptor x y
 descriptor_eq x y = grind (arith, nat_tests)
+
+-- it is true exactly where the two are the same
+pub component_eq-Decides : (x y : Component) → Decides (ComponentPartialEq.ghosts.eq x y) (x ≡ y)
+component_eq-Decides x y = grind (arith, nat_tests)
+
+pub descriptor_eq-Decides : (x y : Descriptor) → Decides (DescriptorPartialEq.ghosts.eq x y) (x ≡ y)
+descriptor_eq-Decides x y = grind (arith, nat_tests)

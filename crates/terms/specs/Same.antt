@@ -1,5 +1,5 @@
 -- Laws of `==`: refusals are equal exactly where their numbers are, and where they are the same.
-use Rattle.std.proofs.Common.{◌≡◌, ◌==◌, arith}
+use Rattle.std.proofs.Common.{◌≡◌, ◌==◌, Decides, arith}
 use Rattle.std.proofs.lemmas.Bool.Decides.{nat_tests}
 use Rattle.terms.specs.Refusals.{number_of}
 use Rattle.terms.specs.contracts.refusal.RefusalPartialEq.TheImpl as RefusalPartialEq
@@ -8,3 +8,7 @@ use Rattle.terms.specs.declared.refusal.Refusal.{Refusal}
 -- the derived `==` compares the numbers
 pub refusal_eq : (x y : Refusal) → RefusalPartialEq.ghosts.eq x y ≡ (number_of x == number_of y)
 refusal_eq x y = grind (arith, nat_tests)
+
+-- it is true exactly where the refusals are the same
+pub refusal_eq-Decides : (x y : Refusal) → Decides (RefusalPartialEq.ghosts.eq x y) (x ≡ y)
+refusal_eq-Decides x y = grind (arith, nat_tests)

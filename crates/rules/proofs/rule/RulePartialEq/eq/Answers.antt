@@ -2,8 +2,8 @@ use Rattle.std.proofs.Common.{◌≡◌, Decides, rules}
 use Rattle.std.proofs.lemmas.Bool.Decides.{same_from_decides}
 use Rattle.std.proofs.lemmas.Slice.Eq.{slice_eq-Decides}
 use Rattle.rules.specs.Rules.{saying}
-use Rattle.rules.specs.Same.{same_rule-Decides}
-use Rattle.rules.proofs.Says.{same_said, component_eq-Decides}
+use Rattle.rules.specs.Same.{component_eq-Decides, same_rule-Decides}
+use Rattle.rules.proofs.Says.{same_said}
 use Rattle.rules.proofs.rule.RulePartialEq.eq.Goals as goal
 
 pub returns : goal.returns
