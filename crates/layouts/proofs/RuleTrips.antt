@@ -7,8 +7,8 @@ use Rattle.octets.proofs.Numbers.{be_number, number_be, octets_drop, octets_take
 use Rattle.terms.specs.Replies.{refuse_if, after, found_or}
 use Rattle.terms.specs.declared.refusal.Refusal.TheVariants as refusal
 use Rattle.terms.proofs.Replies.{after_ok, after_inv, refuse_not, refuse_inv, found_inv}
-use Rattle.rules.specs.Components.{kind_in, holds, in_column}
-use Rattle.rules.specs.Descriptors.{mode_in_column}
+use Rattle.rules.specs.Components.{kind_in, holds, allowed}
+use Rattle.rules.specs.Descriptors.{allowed_mode}
 use Rattle.rules.specs.Rules.{Said, every, distinct, types_in, all_alone, sound_components, sound_rule}
 use Rattle.rules.specs.declared.component.Component.{Component}
 use Rattle.rules.specs.declared.descriptor.Descriptor.{Descriptor}
@@ -32,30 +32,30 @@ pub record SoundParts (r : Said) : Type 0 where
   pub some : 1 ≤ length r.components
   pub differ : distinct (types_in r.components) ≡ true
   pub alone : all_alone (types_in r.components) ≡ true
-  pub column : every in_column r.components ≡ true
-  pub mode : mode_in_column r.descriptor.mode ≡ true
+  pub values : every allowed r.components ≡ true
+  pub mode : allowed_mode r.descriptor.mode ≡ true
 
 pub sound_parts : (r : Said) → sound_rule r ≡ true → SoundParts r
 sound_parts r h =
     let cs = r.components in
-    let a = and_parts (holds 1 r.precedence) (sound_components cs && mode_in_column r.descriptor.mode) h in
-    let b = and_parts (sound_components cs) (mode_in_column r.descriptor.mode) a.1 in
-    let c = and_parts (leb 1 (length cs)) (distinct (types_in cs) && (all_alone (types_in cs) && every in_column cs)) b.0 in
-    let d = and_parts (distinct (types_in cs)) (all_alone (types_in cs) && every in_column cs) c.1 in
-    let e = and_parts (all_alone (types_in cs)) (every in_column cs) d.1 in
+    let a = and_parts (holds 1 r.precedence) (sound_components cs && allowed_mode r.descriptor.mode) h in
+    let b = and_parts (sound_components cs) (allowed_mode r.descriptor.mode) a.1 in
+    let c = and_parts (leb 1 (length cs)) (distinct (types_in cs) && (all_alone (types_in cs) && every allowed cs)) b.0 in
+    let d = and_parts (distinct (types_in cs)) (all_alone (types_in cs) && every allowed cs) c.1 in
+    let e = and_parts (all_alone (types_in cs)) (every allowed cs) d.1 in
     record {
       precedence = ltb-true r.precedence 256 a.0;
       some = leb-true 1 (length cs) c.0;
       differ = d.0;
       alone = e.0;
-      column = e.1;
+      values = e.1;
       mode = b.1;
     }
 
 pub parts_sound : (r : Said) → SoundParts r → sound_rule r ≡ true
 parts_sound r p =
     and_from _ _ (lt-ltb r.precedence 256 p.precedence)
-    (and_from _ _ (and_from _ _ (le-leb 1 _ p.some) (and_from _ _ p.differ (and_from _ _ p.alone p.column))) p.mode)
+    (and_from _ _ (and_from _ _ (le-leb 1 _ p.some) (and_from _ _ p.differ (and_from _ _ p.alone p.values))) p.mode)
 
 -- ---- the frame
 
@@ -151,7 +151,7 @@ module _ (r : Said) (rest : List ℕ) (sound : sound_rule r ≡ true) where
   components_back : components_in (components_part frame xs) ≡ Ok r.components
   components_back =
       ap components_in components_part_is
-      ∙ after_ok _ (components_written r.components [] parts.column parts.differ parts.alone)
+      ∙ after_ok _ (components_written r.components [] parts.values parts.differ parts.alone)
       ∙ refuse_not _ _ (ne_eqb (length r.components) 0 (λ e. omega (arith, e, parts.some)))
 
   pub rule_written : (met : ℕ → Bool) → met r.precedence ≡ false → rule_from met xs ≡ Ok (r, length (rule_octets r))
@@ -207,7 +207,7 @@ record RowRead (xs : List ℕ) (cs : List Component) : Type 0 where
   some : 1 ≤ length cs
   differ : distinct (types_in cs) ≡ true
   alone : all_alone (types_in cs) ≡ true
-  column : every in_column cs ≡ true
+  values : every allowed cs ≡ true
 
 row_of : (ys : List ℕ) (ds es : List Component) → ds ≡ es → eqb (length ds) 0 ≡ false → ComponentsRead [] ys ds → RowRead ys es
 row_of ys ds es same some read =
@@ -217,7 +217,7 @@ row_of ys ds es same some read =
       some = ⊎_elim (λ z. absurd (eqb-false (length ds) 0 some (ap length same ∙ z))) (λ h. h) (cases_zero (length es));
       differ = ap (λ l. distinct (types_in l)) (sym same) ∙ read.differ;
       alone = ap (λ l. all_alone (types_in l)) (sym same) ∙ read.alone;
-      column = ap (every in_column) (sym all) ∙ read.column;
+      values = ap (every allowed) (sym all) ∙ read.values;
     }
   where
     cases_zero : (n : ℕ) → (n ≡ 0) ⊎ (1 ≤ n)
@@ -281,7 +281,7 @@ module _ (met : ℕ → Bool) (ys : List ℕ) (r : Said) (n : ℕ) where
           record {
             octets = parts_octets ys f r o shown p.precedence row.octets described.0 ∙ ap (λ k. take k ys) (sym p.size);
             inside = omega (arith, shown.inside, p.size);
-            sound = parts_sound r (record { precedence = byte; some = row.some; differ = row.differ; alone = row.alone; column = row.column; mode = described.1 });
+            sound = parts_sound r (record { precedence = byte; some = row.some; differ = row.differ; alone = row.alone; values = row.values; mode = described.1 });
             fresh = ap met p.precedence ∙ p.fresh;
           }
         where

@@ -6,7 +6,7 @@ use Rattle.std.proofs.lemmas.Option.{none-some}
 use Rattle.octets.specs.Numbers.{Octets}
 use Rattle.octets.proofs.Numbers.{octets_take}
 use Rattle.terms.proofs.Replies.{after_ok, after_inv}
-use Rattle.rules.specs.Components.{type_of, first, kinds, kind_of, kind_in, in_column}
+use Rattle.rules.specs.Components.{type_of, first, kinds, kind_of, kind_in, allowed}
 use Rattle.rules.specs.Rules.{elem, every, distinct, types_in, all_alone}
 use Rattle.rules.specs.declared.component.Component.{Component}
 use Rattle.rules.specs.declared.component.Kind.{Kind}
@@ -20,13 +20,13 @@ use Rattle.layouts.proofs.Values.{kind_known, value_written, value_read}
 
 -- ---- one component
 
-pub component_written : (ts : List ℕ) (c : Component) (rest : List ℕ) → in_column c ≡ true → clashes (type_of (kind_in c)) ts ≡ false
+pub component_written : (ts : List ℕ) (c : Component) (rest : List ℕ) → allowed c ≡ true → clashes (type_of (kind_in c)) ts ≡ false
     → component_from ts (type_of (kind_in c)) (value_octets c ++ rest) ≡ Ok c
-component_written ts c rest column apart =
+component_written ts c rest in_range apart =
     let front : take (size_of (kind_in c)) (value_octets c ++ rest) ≡ value_octets c = take_at (value_octets c) rest _ (length_value c) in
     component_ok ts (type_of (kind_in c)) (value_octets c ++ rest) (kind_in c) c (kind_known (kind_in c))
     (omega (arith, length-append (value_octets c) rest, length_value c)) apart
-    (sym (ap (value_from (kind_in c)) front ∙ value_written c column)) column
+    (sym (ap (value_from (kind_in c)) front ∙ value_written c in_range)) in_range
 
 -- a choice of two that came out
 pub pick : {A : Type 0} (b : Bool) (y x : A) (o : Option A) → cond b (Some y) o ≡ Some x → ((b ≡ true) × (y ≡ x)) ⊎ ((b ≡ false) × (o ≡ Some x))
@@ -72,11 +72,11 @@ clash_free t (s ∷ ss) rest d a =
     (λ p. absurd (let one = eqb-true _ 1 p in omega (arith, one, length-append ss (t ∷ rest))))
     (or_cases (not (elem 1 (s ∷ (ss ++ (t ∷ rest))))) (eqb (length (s ∷ (ss ++ (t ∷ rest)))) 1) a)
 
-pub components_written : (cs before : List Component) → every in_column cs ≡ true → distinct (types_in (before ++ cs)) ≡ true → all_alone (types_in (before ++ cs)) ≡ true
+pub components_written : (cs before : List Component) → every allowed cs ≡ true → distinct (types_in (before ++ cs)) ≡ true → all_alone (types_in (before ++ cs)) ≡ true
     → components_from before 0 (components_octets cs) ≡ Ok (before ++ cs)
-components_written [] before column d a = ap (λ l. Ok l) (sym (append-nil before))
-components_written (c ∷ cs) before column d a =
-    let p = and_parts (in_column c) (every in_column cs) column in
+components_written [] before values d a = ap (λ l. Ok l) (sym (append-nil before))
+components_written (c ∷ cs) before values d a =
+    let p = and_parts (allowed c) (every allowed cs) values in
     let t = type_of (kind_in c) in
     let types : types_in (before ++ (c ∷ cs)) ≡ types_in before ++ (t ∷ types_in cs) = map-append (λ x. type_of (kind_in x)) before (c ∷ cs) in
     let apart = clash_free t (types_in before) (types_in cs) (rw types at d) (rw types at a) in
@@ -92,7 +92,7 @@ pub record ComponentsRead (before : List Component) (xs : List ℕ) (cs : List C
   pub more : List Component
   pub is : cs ≡ before ++ more
   pub octets : components_octets more ≡ xs
-  pub column : every in_column more ≡ true
+  pub values : every allowed more ≡ true
   pub differ : distinct (types_in cs) ≡ true
   pub alone : all_alone (types_in cs) ≡ true
 
@@ -104,7 +104,7 @@ components_read before n [] cs o d a e =
       more = [];
       is = sym same ∙ sym (append-nil before);
       octets = sym (drop_all n [] (omega arith));
-      column = refl;
+      values = refl;
       differ = ap (λ l. distinct (types_in l)) (sym same) ∙ d;
       alone = ap (λ l. all_alone (types_in l)) (sym same) ∙ a;
     }
@@ -121,7 +121,7 @@ components_read before zero (t ∷ xs) cs o d a e =
       more = c ∷ rest.more;
       is = rest.is ∙ append_assoc before (c ∷ []) rest.more;
       octets = ap (λ l. component_octets c ++ l) rest.octets ∙ component_read (types_in before) t xs c behind shown;
-      column = and_from _ _ shown.column rest.column;
+      values = and_from _ _ shown.in_range rest.values;
       differ = rest.differ;
       alone = rest.alone;
     }

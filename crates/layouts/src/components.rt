@@ -92,7 +92,7 @@ fn read_component(before: &[Component], octets: &[u8]) -> Result<Component, Refu
         return Err(Refusal::Components);
     }
     let component = value_from(kind, &octets[1..1 + size]);
-    if !component.in_column() {
+    if !component.is_allowed() {
         return Err(Refusal::Value);
     }
     Ok(component)

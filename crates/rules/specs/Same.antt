@@ -1,5 +1,5 @@
 -- Laws of `==`: each comparison decides whether two values are equal.
-use Rattle.std.proofs.Common.{◌≡◌, true, Decides, ap, subst, refl, arith}
+use Rattle.std.proofs.Common.{◌≡◌, true, IsTrue, ◌↔◌, Decides, ap, subst, refl, arith}
 use Rattle.std.specs.Cmp.{IsEquivalence, decided}
 use Rattle.std.proofs.lemmas.Slice.Eq.{slice_eq-Decides}
 use Rattle.std.proofs.lemmas.Bool.Decides.{nat_tests, Decides-and, Decides-eqb, Decides-like}
@@ -58,7 +58,14 @@ component_eq x y = grind (arith, nat_tests)
 pub descriptor_eq : (x y : Descriptor) → DescriptorPartialEq.ghosts.eq x y ≡ same_descriptor x y
 descriptor_eq x y = grind (arith, nat_tests)
 
--- it is true exactly where the two are the same
+-- `==` of components is true exactly where the two are the same
+abbrev pub ComponentsCompared : Type 0
+ComponentsCompared = (x y : Component) → IsTrue (ComponentPartialEq.ghosts.eq x y) ↔ (x ≡ y)
+
+-- `==` of descriptors is true exactly where the two are the same
+abbrev pub DescriptorsCompared : Type 0
+DescriptorsCompared = (x y : Descriptor) → IsTrue (DescriptorPartialEq.ghosts.eq x y) ↔ (x ≡ y)
+
 pub component_eq-Decides : (x y : Component) → Decides (ComponentPartialEq.ghosts.eq x y) (x ≡ y)
 component_eq-Decides x y = grind (arith, nat_tests)
 

@@ -2,7 +2,7 @@
 ghost use Rattle.std.specs.Prelude.{◌≡◌};
 ghost use Rattle.terms.specs.Replies.{found_or};
 ghost use Rattle.terms.specs.declared.refusal.Refusal.TheVariants as refusal;
-ghost use Rattle.rules.specs.Components.{type_of, kind_of, kind_in, in_column};
+ghost use Rattle.rules.specs.Components.{type_of, kind_of, kind_in, allowed};
 ghost use Rattle.rules.specs.declared.component.Component.TheVariants.{MatchAll};
 
 use crate::at_most::{AtMost, Item};
@@ -83,8 +83,8 @@ impl Component {
     }
 
     // Whether the value is one that a sheet may give.
-    pub fn in_column(self) -> bool
-        ensures { result ≡ in_column self }
+    pub fn is_allowed(self) -> bool
+        ensures { result ≡ allowed self }
     {
         match self {
             Component::Ipv6 { prefix, .. } => prefix <= 128,

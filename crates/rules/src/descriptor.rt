@@ -1,5 +1,5 @@
 // Access descriptors: which functionality steers, and in which mode.
-ghost use Rattle.std.specs.Prelude.{◌≡◌, ◌-◌, ◌*◌};
+ghost use Rattle.std.specs.Prelude.{◌≡◌};
 ghost use Rattle.terms.specs.Replies.{found_or};
 ghost use Rattle.terms.specs.declared.refusal.Refusal.TheVariants as refusal;
 ghost use Rattle.rules.specs.Descriptors.{functionality_code, functionality_from, share};
@@ -52,18 +52,11 @@ impl Mode {
         ensures { result ≡ share self }
     {
         match self {
-            Mode::LoadBalancing { k } => Some(share_of(k)),
+            Mode::LoadBalancing { k: k @ 1..=11 } => Some(110 - 10 * k),
             Mode::Priority { .. } => Some(50),
             _ => None,
         }
     }
-}
-
-// The share that load balancing has under its information k.
-pub fn share_of(k: u8) -> u8
-    ensures { result ≡ 110 - 10 * k }
-{
-    110u8.saturating_sub(k.saturating_mul(10))
 }
 
 #[derive(Clone, Copy, Debug, PartialEq, Eq)]

@@ -5,9 +5,11 @@
 pub mod at_most;
 pub mod component;
 pub mod descriptor;
+pub mod equality;
 pub mod rule;
 
 pub use at_most::{AtMost, Item};
 pub use component::{Component, Components, Kind, MOST_COMPONENTS};
-pub use descriptor::{Descriptor, Functionality, Mode, share_of};
+pub use descriptor::{Descriptor, Functionality, Mode};
+pub use equality::equality_is_exact;
 pub use rule::{MOST_RULES, Rule, Rules};

@@ -33,8 +33,8 @@ pub rules_written : (rs before : List Said) → every sound_rule rs ≡ true →
 rules_written [] before s d = ap (λ l. Ok l) (sym (append-nil before))
 rules_written (r ∷ rs) before s d =
     let p = and_parts (sound_rule r) (every sound_rule rs) s in
-    let split : precedences (before ++ (r ∷ rs)) ≡ precedences before ++ (r.precedence ∷ precedences rs) = map-append (λ x. x.precedence) before (r ∷ rs) in
-    let fresh = not_before r.precedence (precedences before) (precedences rs) (rw split at d) in
+    let parts : precedences (before ++ (r ∷ rs)) ≡ precedences before ++ (r.precedence ∷ precedences rs) = map-append (λ x. x.precedence) before (r ∷ rs) in
+    let fresh = not_before r.precedence (precedences before) (precedences rs) (rw parts at d) in
     let next : before ++ (r ∷ rs) ≡ (before ++ (r ∷ [])) ++ rs = sym (append_assoc before (r ∷ []) rs) in
     after_ok _ (rule_written r (rules_octets rs) p.0 (λ q. elem q (precedences before)) fresh)
     ∙ ap (rules_from (length rs) (before ++ (r ∷ []))) (drop_at (rule_octets r) (rules_octets rs) _ refl)

@@ -9,7 +9,7 @@ use Rattle.layouts.specs.Memory as memory
 use Rattle.layouts.proofs.Writes.{written_three, length-written}
 use Rattle.sheets.specs.Layout.{rules_octets, trailer, sheet_octets}
 use Rattle.sheets.specs.Reading.{sheet_from}
-use Rattle.sheets.specs.Writing.{Writes}
+use Rattle.sheets.specs.Writing.{WritesSheet}
 use Rattle.sheets.proofs.Trips.{sheet_written}
 
 -- where there is room, octets are written
@@ -35,7 +35,7 @@ pub sheet_done : (h : List ℕ) (rs : List Said) (m ts : List ℕ) (a₁ a₂ : 
     → ts ≡ trailer rs → length (sheet_octets h rs) ≤ 16384 → length (sheet_octets h rs) ≤ length m
     → memory.Writes 0 h m (Ok a₁) m₁ → memory.Writes a₁ (rules_octets rs) m₁ (Ok a₂) m₂ → memory.Writes a₂ ts m₂ r m₃
     → sound rs ≡ true
-    → Writes h rs m r m₃ × IfOk r (λ k. sheet_from (take k m₃) ≡ Ok (length h, rs))
+    → WritesSheet h rs m r m₃ × IfOk r (λ k. sheet_from (take k m₃) ≡ Ok (length h, rs))
 sheet_done h rs m ts a₁ a₂ m₁ m₂ m₃ r trails limit room w₁ w₂ w₃ sounds =
     let xs = sheet_octets h rs in
     let long = length_sheet h rs in

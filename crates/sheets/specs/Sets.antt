@@ -7,14 +7,14 @@ use Rattle.rules.specs.Rules.{Said, saying}
 use Rattle.rules.specs.declared.rule.Rule.{Rule}
 use Rattle.sheets.specs.Tables.{said}
 use Rattle.sheets.specs.declared.rule_set.RuleSet.{RuleSet}
-use Rattle.sheets.specs.declared.rule_set.reading.Sheet.{Sheet}
+use Rattle.sheets.specs.declared.rule_set.reading.SheetRead.{SheetRead}
 
 -- the rules, in the order of the sheet
 abbrev pub rules_of : RuleSet → List Said
 rules_of s = said s.table
 
 -- the length of the heading, and the rules
-abbrev pub sheeting : Sheet → ℕ × List Said
+abbrev pub sheeting : SheetRead → ℕ × List Said
 sheeting s = (s.heading, rules_of s.rules)
 
 -- what asking for the rule at a position gives

@@ -8,8 +8,8 @@ use Rattle.sheets.specs.Reading.{sheet_from}
 
 -- the sheet stands at the front of the memory m and all behind it is as it was;
 -- where it passes the limit or the memory, nothing is written
-abbrev pub Writes : List ℕ → List Said → List ℕ → Result ℕ Refusal → List ℕ → Type 0
-Writes heading rs m r m' =
+abbrev pub WritesSheet : List ℕ → List Said → List ℕ → Result ℕ Refusal → List ℕ → Type 0
+WritesSheet heading rs m r m' =
     MatchBool (nat_le (length (sheet_octets heading rs)) 16384 && nat_le (length (sheet_octets heading rs)) (length m))
     ((r ≡ Ok (length (sheet_octets heading rs))) × (m' ≡ sheet_octets heading rs ++ drop (length (sheet_octets heading rs)) m))
     ((r ≡ Err Memory) × (m' ≡ m))

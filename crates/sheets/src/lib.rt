@@ -4,6 +4,6 @@
 pub mod rule_set;
 
 pub use rule_set::RuleSet;
-pub use rule_set::reading::{LIMIT, Sheet, read};
+pub use rule_set::reading::{MOST_OCTETS, SheetRead, read};
 pub use rule_set::rewriting::rewrite;
 pub use rule_set::writing::write;

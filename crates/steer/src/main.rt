@@ -1,15 +1,14 @@
-// Reads lines from standard input and answers each: `S` and a sheet in hexadecimal.
+// Reads commands from standard input, one on each line of text, and prints the answer to each.
 #![tactic(auto)]
 
 use std::io::{BufRead, BufReader};
-use texts::reply;
+use texts::{Words, carry_out};
 
 fn main(rt: HostRuntime) -> anyhow::Result<()> {
     let heap = rt.alloc();
-    for line in BufReader::new(heap, rt.stdin())?.split(heap, b'\n') {
-        let line = line?;
-        let text = reply(heap, line.as_slice())?;
-        println!(rt; "{text}")?;
+    for text in BufReader::new(heap, rt.stdin())?.split(heap, b'\n') {
+        let answer = carry_out(text?.as_slice());
+        println!(rt; "{}", Words(answer))?;
     }
     Ok(())
 }

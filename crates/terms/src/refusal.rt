@@ -48,15 +48,16 @@ impl fmt::Display for Refusal {
         f.write_str(match self {
             Refusal::SheetSize => "a sheet has 3 to 16384 octets",
             Refusal::RuleCount => "a sheet has 1 to 128 rules",
-            Refusal::Distance => "the distance goes back past the sheet",
+            Refusal::Distance => "the distance leads past the first octet of the sheet",
             Refusal::Frame => "a rule or a component does not fit its place",
             Refusal::ComponentType => "unknown type of component",
             Refusal::Components =>
                 "a rule has no component, a type twice, or match-all beside another",
             Refusal::Value => "the component's value is out of range",
-            Refusal::Descriptor => "the access descriptor breaks its layout",
+            Refusal::Descriptor =>
+                "the access descriptor has a wrong length, functionality, mode or information",
             Refusal::Precedence => "the precedence stands in an earlier rule",
-            Refusal::Surplus => "octets before the trailer that no rule has",
+            Refusal::Surplus => "octets are left over before the trailer",
             Refusal::Memory => "the memory is too short, or the sheet is over 16384 octets",
             Refusal::NoPacket => "the octets are no packet",
             Refusal::NoRule => "no rule in force matches the packet",

@@ -1,38 +1,72 @@
--- Laws of the answers to lines.
-use Rattle.std.proofs.Common.{◌≡◌, ℕ, ◌≤◌, List, ◌++◌, length, take, drop, Ok, Err, codes, Result, sym, ap, ◌∙◌, arith, MatchResult, IfOk, String, string_bytes}
-use Rattle.std.proofs.lemmas.Result.{IfOk-weaker}
+-- Laws of the answers to commands.
+use Rattle.std.proofs.Common.{◌≡◌, ℕ, ◌≤◌, List, ◌++◌, length, take, drop, Ok, Err, codes, sym, ap, ◌∙◌, subst, inr, arith, length-append}
+use Rattle.std.proofs.lemmas.List.{take_at}
 use Rattle.terms.specs.declared.refusal.Refusal.{Refusal}
 use Rattle.rules.specs.Rules.{Said}
 use Rattle.sheets.specs.Reading.{sheet_from}
 use Rattle.sheets.specs.Writing.{Rewrites}
-use Rattle.texts.specs.Commands.{SheetLine}
+use Rattle.sheets.proofs.Refused.{size_refused}
+use Rattle.texts.specs.Answers.{Answers, Told, accepted, refused, sheet_told, fault_told}
+use Rattle.texts.specs.Commands.{SheetCommand, ReadsCommand}
 use Rattle.texts.specs.Hexes.{hex_of}
-use Rattle.texts.specs.Answers.{Answers, Told, sheet_told, told_words}
-use Rattle.texts.specs.Replies.{refusal_words, Replies}
-use Rattle.texts.specs.Sheets.{sheet_words}
+use Rattle.texts.specs.declared.command.CommandFault.{CommandFault}
+use Rattle.texts.specs.declared.command.CommandFault.TheVariants.{Unknown, Hex}
+use Rattle.texts.specs.declared.hex.HexFault.TheVariants.{NotHex, NoRoom}
 use Rattle.texts.proofs.Hexes.{hex_same}
 
 -- what a sheet that was written again was read as
-pub rewrites_ok : (xs m : List ℕ) (s : ℕ × List Said) (m' : List ℕ) → Rewrites xs m (Ok s) m' → (Ok s ≡ sheet_from xs) × (m' ≡ xs ++ drop (length xs) m)
+rewrites_ok : (xs m : List ℕ) (s : ℕ × List Said) (m' : List ℕ) → Rewrites xs m (Ok s) m' → (Ok s ≡ sheet_from xs) × (m' ≡ xs ++ drop (length xs) m)
 rewrites_ok xs m s m' w = (grind arith, grind arith)
 
 -- and why it was refused, where there is room for it
-pub rewrites_err : (xs m : List ℕ) (e : Refusal) (m' : List ℕ) → length xs ≤ length m → Rewrites xs m (Err e) m' → Err e ≡ sheet_from xs
+rewrites_err : (xs m : List ℕ) (e : Refusal) (m' : List ℕ) → length xs ≤ length m → Rewrites xs m (Err e) m' → Err e ≡ sheet_from xs
 rewrites_err xs m e m' room w = grind arith
 
--- only one sheet is handed in by a line
-pub only : (line xs ys : List ℕ) → SheetLine line xs → SheetLine line ys → xs ≡ ys
-only line xs ys p q = hex_same xs ys p.octets q.octets (let e : codes "S " ++ hex_of xs ≡ codes "S " ++ hex_of ys = sym p.written ∙ q.written in ap (drop 2) e)
+-- only one sheet is handed in by a text
+only : (text xs ys : List ℕ) → SheetCommand text xs → SheetCommand text ys → xs ≡ ys
+only text xs ys p q = hex_same xs ys p.octets q.octets (let e : codes "S " ++ hex_of xs ≡ codes "S " ++ hex_of ys = sym p.written ∙ q.written in ap (drop 2) e)
 
--- the words to a sheet
-said : (xs : List ℕ) (r : Result (ℕ × List Said) Refusal) (told : Told) (text : List ℕ) → text ≡ told_words told → told ≡ sheet_told xs r → MatchResult r (λ s. text ≡ sheet_words (take s.0 xs) s.1 xs) (λ e. text ≡ refusal_words e)
-said xs (Ok s) told text is same = is ∙ ap told_words same
-said xs (Err e) told text is same = is ∙ ap told_words same
+-- the answer to these octets is that to the text that hands them in
+handing : (text xs : List ℕ) (told : Told) → SheetCommand text xs → told ≡ sheet_told xs (sheet_from xs) → Answers text told
+handing text xs told s is =
+    record {
+      to_sheet = λ ys q. is ∙ ap (λ l. sheet_told l (sheet_from l)) (only text xs ys s q);
+      to_other = λ rest e none. absurd (none xs s);
+      to_unknown = λ none. absurd (none (hex_of xs) s.written);
+    }
 
--- an answer in words, where there is memory for it, is the reply
-pub replied : {Z E : Type 0} (r : Result (String Z) E) (line : List ℕ) (told : Told) → Answers line told → IfOk r (λ s. string_bytes s ≡ told_words told) → IfOk r (λ s. Replies line (string_bytes s))
-replied r line told a is = IfOk-weaker r _ _ (λ s same. record {
-  to_sheet = λ xs handed. said xs (sheet_from xs) told (string_bytes s) same (a.to_sheet xs handed);
-  to_other = λ rest e none. same ∙ ap told_words (a.to_other rest e none);
-  to_unknown = λ none. same ∙ ap told_words (a.to_unknown none);
-}) is
+-- octets that a text hands in, and that are written again or refused
+module _ (text m : List ℕ) (n : ℕ) (m' w w' : List ℕ) (r : ReadsCommand text m (Ok n) m') where
+  abbrev xs : List ℕ
+  xs = r.0
+
+  front : take n m' ≡ xs
+  front = ap (take n) r.3 ∙ take_at xs (drop n m) n r.2
+
+  pub accepted_answered : (s : ℕ × List Said) → Rewrites (take n m') w (Ok s) w' → Answers text (accepted (take n w') s.0 s.1)
+  accepted_answered s again =
+      let (read, written) = rewrites_ok xs w s w' (subst (λ l. Rewrites l w (Ok s) w') front again) in
+      let back : take n w' ≡ xs = ap (take n) written ∙ take_at xs (drop (length xs) w) n r.2 in
+      handing text xs _ r.1 (ap (λ l. accepted l s.0 s.1) back ∙ ap (sheet_told xs) read)
+
+  pub refused_answered : (e : Refusal) → length m' ≤ length w → Rewrites (take n m') w (Err e) w' → Answers text (refused e)
+  refused_answered e room again =
+      let fits : length xs ≤ length w = omega (arith, room, ap length r.3, length-append xs (drop n m)) in
+      handing text xs _ r.1 (ap (sheet_told xs) (rewrites_err xs w e w' fits (subst (λ l. Rewrites l w (Err e) w') front again)))
+
+-- a text that hands in no octets, or more than a sheet has
+pub fault_answered : (text m : List ℕ) (fault : CommandFault) (m' : List ℕ) (told : Told) → length m ≡ 16384 → ReadsCommand text m (Err fault) m' → told ≡ fault_told fault → Answers text told
+fault_answered text m Unknown m' told long (none, same) is =
+    record {
+      to_sheet = λ xs s. absurd (none (hex_of xs) s.written);
+      to_other = λ rest e n. absurd (none rest e);
+      to_unknown = λ _. is;
+    }
+fault_answered text m (Hex NotHex) m' told long (rest, begins, none, same) is =
+    record {
+      to_sheet = λ xs s. absurd (none xs s);
+      to_other = λ _ e n. is;
+      to_unknown = λ n. absurd (n rest begins);
+    }
+fault_answered text m (Hex NoRoom) m' told long (xs, s, over, same) is =
+    handing text xs told s (is ∙ ap (sheet_told xs) (sym (size_refused xs (inr (omega arith, omega arith)))))

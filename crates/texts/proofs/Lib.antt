@@ -1,6 +1,5 @@
 pub mod Answering
+pub mod Commands
 pub mod Hexes
-pub mod Lines
 pub mod Sheeting
-pub mod Telling
 pub mod Wording

@@ -2,16 +2,16 @@
 use Rattle.std.proofs.Common.{◌≡◌, ℕ, zero, suc, ◌+◌, ◌<◌, List, [], ◌∷◌, ◌++◌, map, length, get_or, take, sym, ap, ◌∙◌, append_assoc, append-nil, add-one, le_of_suc-le-suc, not-suc-le-zero, arith}
 use Rattle.rules.specs.Rules.{saying}
 use Rattle.rules.specs.declared.rule.Rule.{Rule}
-use Rattle.texts.specs.Sheets.{rule_line, lines_from}
+use Rattle.texts.specs.Sheets.{rule_row, rows_from}
 
--- one line more, where the lines stand from position k on
-line_more : (k : ℕ) (rules : List Rule) (i : ℕ) (d : Rule) → i < length rules → lines_from k (map saying (take i rules)) ++ rule_line (k + i) (saying (get_or rules i d)) ≡ lines_from k (map saying (take (suc i) rules))
-line_more k [] i d h = absurd (not-suc-le-zero h)
-line_more k (r ∷ rs) zero d h = let e : k + 0 ≡ k = omega arith in rw e (sym (append-nil (rule_line k (saying r))))
-line_more k (r ∷ rs) (suc i) d h =
+-- one row more, where the rows stand from position k on
+row_more : (k : ℕ) (rules : List Rule) (i : ℕ) (d : Rule) → i < length rules → rows_from k (map saying (take i rules)) ++ rule_row (k + i) (saying (get_or rules i d)) ≡ rows_from k (map saying (take (suc i) rules))
+row_more k [] i d h = absurd (not-suc-le-zero h)
+row_more k (r ∷ rs) zero d h = let e : k + 0 ≡ k = omega arith in rw e (sym (append-nil (rule_row k (saying r))))
+row_more k (r ∷ rs) (suc i) d h =
     let e : k + suc i ≡ suc k + i = omega arith in
-    let first = rule_line k (saying r) in
-    append_assoc first (lines_from (suc k) (map saying (take i rs))) _ ∙ ap (λ l. first ++ l) (rw e (line_more (suc k) rs i d (le_of_suc-le-suc h)))
+    let first = rule_row k (saying r) in
+    append_assoc first (rows_from (suc k) (map saying (take i rs))) _ ∙ ap (λ l. first ++ l) (rw e (row_more (suc k) rs i d (le_of_suc-le-suc h)))
 
-pub lines_more : (rules : List Rule) (i : ℕ) (d : Rule) → i < length rules → lines_from 0 (map saying (take i rules)) ++ rule_line i (saying (get_or rules i d)) ≡ lines_from 0 (map saying (take (i + 1) rules))
-lines_more rules i d h = let e : 0 + i ≡ i = omega arith in rw add-one (rw e at (line_more 0 rules i d h))
+pub rows_more : (rules : List Rule) (i : ℕ) (d : Rule) → i < length rules → rows_from 0 (map saying (take i rules)) ++ rule_row i (saying (get_or rules i d)) ≡ rows_from 0 (map saying (take (i + 1) rules))
+rows_more rules i d h = let e : 0 + i ≡ i = omega arith in rw add-one (rw e at (row_more 0 rules i d h))

@@ -1,6 +1,5 @@
 pub mod Answers
 pub mod Commands
 pub mod Hexes
-pub mod Replies
 pub mod Sheets
 pub mod Words

@@ -1,5 +1,5 @@
 -- Rules in words.
-use Rattle.std.specs.Prelude.{ℕ, zero, suc, ◌-◌, ◌*◌, Bool, true, false, List, [], ◌∷◌, ◌++◌, take, drop, codes, decimal}
+use Rattle.std.specs.Prelude.{ℕ, zero, suc, ◌*◌, Bool, true, false, List, [], ◌∷◌, ◌++◌, take, drop, Some, None, Option, codes, decimal}
 use Rattle.std.specs.List.{flat_map}
 use Rattle.texts.specs.Hexes.{hex_of}
 use Rattle.octets.specs.Numbers.{be}
@@ -10,6 +10,7 @@ use Rattle.rules.specs.declared.descriptor.Functionality.{Functionality}
 use Rattle.rules.specs.declared.descriptor.Functionality.TheVariants.{OnlyOne, Mptcp, AtsssLl}
 use Rattle.rules.specs.declared.descriptor.Mode.{Mode}
 use Rattle.rules.specs.declared.descriptor.Mode.TheVariants.{ActiveStandby, SmallestDelay, LoadBalancing, Priority}
+use Rattle.rules.specs.Descriptors.{share}
 use Rattle.rules.specs.Rules.{Said}
 
 -- octets in decimal, with points between
@@ -48,10 +49,15 @@ abbrev pub standby_words : Bool → List ℕ
 standby_words true = codes "with standby"
 standby_words false = codes "alone"
 
+-- the share of a mode that splits; without one there are words too, though no sheet is read so
+abbrev pub share_words : Option ℕ → List ℕ
+share_words (Some p) = decimal p ++ codes " percent over 3GPP"
+share_words None = codes "no share"
+
 abbrev pub mode_words : Mode → List ℕ
 mode_words (ActiveStandby active standby) = codes "active-standby, " ++ (name_of active ++ (codes " " ++ standby_words standby))
 mode_words SmallestDelay = codes "smallest delay"
-mode_words (LoadBalancing k) = codes "load balancing, " ++ (decimal (110 - 10 * k) ++ codes " percent over 3GPP")
+mode_words (LoadBalancing k) = codes "load balancing, " ++ share_words (share (LoadBalancing k))
 mode_words (Priority first) = codes "priority based, " ++ (name_of first ++ codes " first")
 
 -- each component behind a comma

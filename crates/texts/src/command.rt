@@ -1,43 +1,44 @@
-// Command lines.
+// Commands.
 ghost use Rattle.std.specs.Prelude.{◌≡◌, ◌++◌, codes};
-ghost use Rattle.texts.specs.Commands.{ReadsLine};
-ghost use Rattle.texts.specs.declared.command.LineFault.TheVariants.{Hex};
+ghost use Rattle.texts.specs.Commands.{ReadsCommand};
+ghost use Rattle.texts.specs.declared.command.CommandFault.TheVariants.{Hex};
 
 use crate::hex::{HexFault, read_hex};
 
-// Why a line is no command that can be carried out.
+// Why a text is no command that can be carried out.
 #[derive(Clone, Copy, PartialEq, Eq, Debug)]
-pub enum LineFault {
+pub enum CommandFault {
     // it does not begin as a command does
     Unknown,
     // what follows is not one octet or more in hexadecimal, or more than the memory has
     Hex { fault: HexFault },
 }
 
-impl From<HexFault> for LineFault {
+impl From<HexFault> for CommandFault {
     ghost from_gives = { λ fault e. e ≡ Hex fault };
 
-    fn from(fault: HexFault) -> LineFault {
-        LineFault::Hex { fault }
+    fn from(fault: HexFault) -> CommandFault {
+        CommandFault::Hex { fault }
     }
 }
 
-// Reads a line that hands in a sheet, its octets into the front of the memory, and gives their number.
-pub fn read_line(line: &[u8], memory: &mut [u8]) -> Result<usize, LineFault>
-    ensures { ReadsLine line.now memory.old result memory.new }
+// Reads the text of a command that hands in octets as a sheet, these octets into the front
+// of the memory, and gives their number.
+pub fn read_command(text: &[u8], memory: &mut [u8]) -> Result<usize, CommandFault>
+    ensures { ReadsCommand text.now memory.old result memory.new }
 {
-    let [b'S', b' ', text @ ..] = line else {
-        return Err(LineFault::Unknown);
+    let [b'S', b' ', octets @ ..] = text else {
+        return Err(CommandFault::Unknown);
     };
-    read_sheet(text, memory)
+    read_sheet(octets, memory)
 }
 
 // Reads what stands behind the letter and the space.
-fn read_sheet(text: &[u8], memory: &mut [u8]) -> Result<usize, LineFault>
-    ensures { ReadsLine (codes "S " ++ text.now) memory.old result memory.new }
+fn read_sheet(text: &[u8], memory: &mut [u8]) -> Result<usize, CommandFault>
+    ensures { ReadsCommand (codes "S " ++ text.now) memory.old result memory.new }
 {
     if text.is_empty() {
-        return Err(LineFault::Hex {
+        return Err(CommandFault::Hex {
             fault: HexFault::NotHex,
         });
     }

@@ -1,7 +1,7 @@
 // Sheets in words.
 ghost use Rattle.std.specs.Prelude.{map, Some};
 ghost use Rattle.rules.specs.Rules.{saying};
-ghost use Rattle.texts.specs.Sheets.{lines_from, sheet_words};
+ghost use Rattle.texts.specs.Sheets.{rows_from, sheet_words};
 
 use crate::hex::Hex;
 use crate::words::Words;
@@ -10,7 +10,7 @@ use std::fmt;
 
 // What `{}` writes of a sheet that was read and written again.
 #[derive(Clone, Copy)]
-pub struct SheetWords<'a> {
+pub(crate) struct SheetWords<'a> {
     pub heading: &'a [u8],
     pub rules: &'a [Rule],
     pub written: &'a [u8],
@@ -31,9 +31,9 @@ impl fmt::Display for SheetWords<'_> {
     }
 }
 
-// A line for each rule, with its position.
+// A row for each rule, with its position.
 impl fmt::Display for Words<&[Rule]> {
-    ghost output = { λ x. Some (lines_from 0 (map saying x.0.now)) };
+    ghost output = { λ x. Some (rows_from 0 (map saying x.0.now)) };
 
     fn fmt<W: fmt::Write>(&self, f: &mut fmt::Formatter<W>) -> fmt::Result {
         for (i, rule) in self.0.iter().enumerate() {

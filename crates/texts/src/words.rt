@@ -5,7 +5,7 @@ ghost use Rattle.rules.specs.Rules.{saying};
 
 use crate::hex::Hex;
 use octets::octets_of;
-use rules::{Component, Descriptor, Functionality, Mode, Rule, share_of};
+use rules::{Component, Descriptor, Functionality, Mode, Rule};
 use std::fmt;
 use std::net::Ipv4Addr;
 
@@ -98,9 +98,10 @@ impl fmt::Display for Words<Mode> {
                 standby: false,
             } => write!(f, "active-standby, {active} alone"),
             Mode::SmallestDelay => f.write_str("smallest delay"),
-            Mode::LoadBalancing { k } => {
-                write!(f, "load balancing, {} percent over 3GPP", share_of(k))
-            }
+            Mode::LoadBalancing { .. } => match self.0.share() {
+                Some(share) => write!(f, "load balancing, {share} percent over 3GPP"),
+                None => f.write_str("load balancing, no share"),
+            },
             Mode::Priority { first } => write!(f, "priority based, {first} first"),
         }
     }

@@ -1,7 +1,7 @@
 // The shared words: accesses, pairs, shares and refusals.
 #[cfg(test)]
 mod tests {
-    use rules::{Mode, share_of};
+    use rules::Mode;
     use std::test::Fail;
     use terms::{Access, Pair, Refusal};
 
@@ -29,13 +29,34 @@ mod tests {
         assert_eq!(rt; *pair.at(Access::NonThreeGpp), 30);
     }
 
+    // The information of load balancing, and the share.
+    const BALANCED: [(u8, Option<u8>); 14] = [
+        (0, None),
+        (1, Some(100)),
+        (2, Some(90)),
+        (3, Some(80)),
+        (4, Some(70)),
+        (5, Some(60)),
+        (6, Some(50)),
+        (7, Some(40)),
+        (8, Some(30)),
+        (9, Some(20)),
+        (10, Some(10)),
+        (11, Some(0)),
+        (12, None),
+        (255, None),
+    ];
+
     #[test]
     fn shares_by_k(rt: HostRuntime) {
-        for (k, share) in [(1, 100), (2, 90), (6, 50), (10, 10), (11, 0)] {
-            assert_eq!(rt; share_of(k), share);
-            assert_eq!(rt; Mode::LoadBalancing { k }.share(), Some(share));
+        for (k, share) in BALANCED {
+            assert_eq!(rt; Mode::LoadBalancing { k }.share(), share, "{}", k);
         }
+        let first = Access::NonThreeGpp;
+        let (active, standby) = (first, true);
+        assert_eq!(rt; Mode::Priority { first }.share(), Some(50));
         assert_eq!(rt; Mode::SmallestDelay.share(), None);
+        assert_eq!(rt; Mode::ActiveStandby { active, standby }.share(), None);
     }
 
     const REFUSALS: [(Refusal, u8, &str); 23] = [
@@ -44,7 +65,7 @@ mod tests {
         (
             Refusal::Distance,
             3,
-            "the distance goes back past the sheet",
+            "the distance leads past the first octet of the sheet",
         ),
         (
             Refusal::Frame,
@@ -61,7 +82,7 @@ mod tests {
         (
             Refusal::Descriptor,
             8,
-            "the access descriptor breaks its layout",
+            "the access descriptor has a wrong length, functionality, mode or information",
         ),
         (
             Refusal::Precedence,
@@ -71,7 +92,7 @@ mod tests {
         (
             Refusal::Surplus,
             10,
-            "octets before the trailer that no rule has",
+            "octets are left over before the trailer",
         ),
         (
             Refusal::Memory,

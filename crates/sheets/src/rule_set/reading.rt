@@ -33,28 +33,29 @@ fn read_rules(octets: &[u8], count: usize) -> Result<Rules, Refusal>
 }
 
 // The most octets that a sheet has.
-pub const LIMIT: usize = 16384;
+pub const MOST_OCTETS: usize = 16384;
 
 // A sheet that was read: how many octets its heading has, and its rules.
 #[derive(Clone, Copy)]
-pub struct Sheet {
+pub struct SheetRead {
     pub heading: usize,
     pub rules: RuleSet,
 }
 
+// Reads the octets as a sheet.
 #[tactic(auto, using(crate::proofs::Trips::lawful))]
-pub fn read(octets: &[u8]) -> Result<Sheet, Refusal>
+pub fn read(octets: &[u8]) -> Result<SheetRead, Refusal>
     ensures value { seen_as sheeting result ≡ sheet_from octets.now }
     ensures law { Lawful octets.now (seen_as sheeting result) }
 {
-    if octets.len() < 3 || octets.len() > LIMIT {
+    if octets.len() < 3 || octets.len() > MOST_OCTETS {
         return Err(Refusal::SheetSize);
     }
     read_within(octets)
 }
 
 // The sheet in so many octets as a sheet may have.
-fn read_within(octets: &[u8]) -> Result<Sheet, Refusal>
+fn read_within(octets: &[u8]) -> Result<SheetRead, Refusal>
     requires least { 3 ≤ length octets.now }
     requires most { length octets.now ≤ 16384 }
     ensures { seen_as sheeting result ≡ sheet_from octets.now }
@@ -70,7 +71,7 @@ fn read_within(octets: &[u8]) -> Result<Sheet, Refusal>
     }
     let heading = trailer - distance;
     let table = read_rules(&octets[heading..trailer], count)?;
-    Ok(Sheet {
+    Ok(SheetRead {
         heading,
         rules: RuleSet { table },
     })

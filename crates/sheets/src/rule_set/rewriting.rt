@@ -3,15 +3,15 @@ ghost use Rattle.terms.specs.Replies.{seen_as};
 ghost use Rattle.sheets.specs.Sets.{sheeting};
 ghost use Rattle.sheets.specs.Writing.{Rewrites};
 
-use crate::rule_set::reading::{Sheet, read};
+use crate::rule_set::reading::{SheetRead, read};
 use crate::rule_set::writing::write;
 use terms::Refusal;
 
 // Reads the octets as a sheet and writes it again into the front of the memory: the same octets.
-pub fn rewrite(octets: &[u8], memory: &mut [u8]) -> Result<Sheet, Refusal>
+pub fn rewrite(octets: &[u8], memory: &mut [u8]) -> Result<SheetRead, Refusal>
     ensures { Rewrites octets.now memory.old (seen_as sheeting result) memory.new }
 {
-    let Sheet { heading, rules } = read(octets)?;
+    let SheetRead { heading, rules } = read(octets)?;
     write(&rules, &octets[0..heading], memory)?;
-    Ok(Sheet { heading, rules })
+    Ok(SheetRead { heading, rules })
 }

@@ -1,27 +1,27 @@
 // Writing a sheet.
 ghost use Rattle.std.specs.Prelude.{◌≡◌, ◌+◌, ◌≤◌, length, take, IfOk, Ok};
 ghost use Rattle.sheets.specs.Layout.{rules_octets, sheet_octets};
-ghost use Rattle.layouts.specs.Memory.{Writes as WritesAt};
+ghost use Rattle.layouts.specs.Memory.{Writes};
 ghost use Rattle.sheets.specs.Reading.{sheet_from};
 ghost use Rattle.sheets.specs.Sets.{rules_of};
-ghost use Rattle.sheets.specs.Writing.{Writes};
+ghost use Rattle.sheets.specs.Writing.{WritesSheet};
 
 use crate::rule_set::RuleSet;
-use crate::rule_set::reading::LIMIT;
+use crate::rule_set::reading::MOST_OCTETS;
 use layouts::{rules_size, write_octets, write_rules};
 use octets::octets_of;
 use terms::Refusal;
 
 // Writes the sheet of the set under the heading into the front of the memory, and gives its length.
 pub fn write(set: &RuleSet, heading: &[u8], memory: &mut [u8]) -> Result<usize, Refusal>
-    ensures value { Writes heading.now (rules_of set.now) memory.old result memory.new }
+    ensures value { WritesSheet heading.now (rules_of set.now) memory.old result memory.new }
     ensures back { IfOk result (λ n. sheet_from (take n memory.new) ≡ Ok (length heading.now, rules_of set.now)) }
 {
-    if heading.len() > LIMIT {
+    if heading.len() > MOST_OCTETS {
         return Err(Refusal::Memory);
     }
     let size = sheet_size(set, heading);
-    if size > LIMIT || size > memory.len() {
+    if size > MOST_OCTETS || size > memory.len() {
         return Err(Refusal::Memory);
     }
     write_fitting(set, heading, memory)
@@ -39,7 +39,7 @@ fn size_of_rules(set: &RuleSet) -> usize
 
 // Writes the rules from a place on, and gives the place behind them.
 fn place_rules(set: &RuleSet, memory: &mut [u8], at: usize) -> Result<usize, Refusal>
-    ensures { WritesAt at (rules_octets (rules_of set.now)) memory.old result memory.new }
+    ensures { Writes at (rules_octets (rules_of set.now)) memory.old result memory.new }
 {
     write_rules(&set.table, memory, at)
 }
@@ -57,7 +57,7 @@ fn sheet_size(set: &RuleSet, heading: &[u8]) -> usize
 fn write_fitting(set: &RuleSet, heading: &[u8], memory: &mut [u8]) -> Result<usize, Refusal>
     requires limit { length (sheet_octets heading.now (rules_of set.now)) ≤ 16384 }
     requires room { length (sheet_octets heading.now (rules_of set.now)) ≤ length memory.old }
-    ensures value { Writes heading.now (rules_of set.now) memory.old result memory.new }
+    ensures value { WritesSheet heading.now (rules_of set.now) memory.old result memory.new }
     ensures back { IfOk result (λ n. sheet_from (take n memory.new) ≡ Ok (length heading.now, rules_of set.now)) }
 {
     let at = write_octets(heading, memory, 0)?;

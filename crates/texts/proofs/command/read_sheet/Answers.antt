@@ -1,5 +1,5 @@
 use Rattle.std.proofs.Common.{refl}
-use Rattle.texts.proofs.Lines.{no_text}
+use Rattle.texts.proofs.Commands.{no_text}
 use Rattle.texts.proofs.command.read_sheet.Goals as goal
 
 pub returns-then-is_empty : goal.returns-then-is_empty
