@@ -12,7 +12,7 @@ use Rattle.rules.specs.declared.component.Kind.{Kind}
 use Rattle.rules.specs.declared.component.Kind.TheVariants as kind
 use Rattle.rules.specs.declared.descriptor.Descriptor.{Descriptor}
 use Rattle.layouts.specs.Layout.{value_octets}
-use Rattle.layouts.specs.Reading.{Framed, size_of, value_from, clashes, component_from, components_in, descriptor_from, frame_from, rule_from}
+use Rattle.layouts.specs.Reading.{FrameFields, size_of, value_from, clashes, component_from, components_in, descriptor_from, frame_from, rule_from}
 
 pub component_ok : (ts : List ℕ) (t : ℕ) (xs : List ℕ) (k : Kind) (c : Component)
     → kind_of t ≡ Some k → size_of k ≤ length xs → clashes (type_of k) ts ≡ false → c ≡ value_from k (take (size_of k) xs) → allowed c ≡ true
@@ -71,13 +71,13 @@ component_inv ts t xs c e =
 
 -- ---- a rule, part by part
 
-abbrev pub components_part : Framed → List ℕ → List ℕ
+abbrev pub components_part : FrameFields → List ℕ → List ℕ
 components_part f xs = take f.components (drop 5 xs)
 
-abbrev pub descriptor_part : Framed → List ℕ → List ℕ
+abbrev pub descriptor_part : FrameFields → List ℕ → List ℕ
 descriptor_part f xs = take (f.size - (5 + f.components)) (drop (5 + f.components) xs)
 
-module _ (met : ℕ → Bool) (xs : List ℕ) (f : Framed) (framed : frame_from xs ≡ Ok f) where
+module _ (met : ℕ → Bool) (xs : List ℕ) (f : FrameFields) (framed : frame_from xs ≡ Ok f) where
   pub rule_stops : (e : Refusal) → components_in (components_part f xs) ≡ Err e → rule_from met xs ≡ Err e
   rule_stops e r = after_ok _ framed ∙ after_err _ r
 

@@ -9,12 +9,12 @@ use Rattle.terms.specs.declared.refusal.Refusal.TheVariants as refusal
 use Rattle.terms.proofs.Replies.{after_ok, after_inv, refuse_not, refuse_inv, found_inv}
 use Rattle.rules.specs.Components.{kind_in, holds, allowed}
 use Rattle.rules.specs.Descriptors.{allowed_mode}
-use Rattle.rules.specs.Rules.{Said, every, distinct, types_in, all_alone, sound_components, sound_rule}
+use Rattle.rules.specs.Rules.{SteeringRule, every, distinct, types_in, all_alone, sound_components, sound_rule}
 use Rattle.rules.specs.declared.component.Component.{Component}
 use Rattle.rules.specs.declared.descriptor.Descriptor.{Descriptor}
 use Rattle.rules.proofs.Sound.{few_components}
 use Rattle.layouts.specs.Layout.{component_octets, components_octets, descriptor_octets, rule_body, rule_octets}
-use Rattle.layouts.specs.Reading.{Framed, field, components_from, components_in, descriptor_from, frame_from, rule_from}
+use Rattle.layouts.specs.Reading.{FrameFields, field, components_from, components_in, descriptor_from, frame_from, rule_from}
 use Rattle.layouts.proofs.Accepts.{components_part, descriptor_part, length_value, rule_ok}
 use Rattle.layouts.proofs.Descriptions.{descriptor_written, descriptor_read, length_information}
 use Rattle.layouts.proofs.Values.{size_small}
@@ -27,7 +27,7 @@ components_small [] = omega arith
 components_small (c ∷ cs) = omega (arith, length-append (component_octets c) (components_octets cs), length_value c, size_small (kind_in c), components_small cs)
 
 -- the sentences of a sound rule
-pub record SoundParts (r : Said) : Type 0 where
+pub record SoundParts (r : SteeringRule) : Type 0 where
   pub precedence : r.precedence < 256
   pub some : 1 ≤ length r.components
   pub differ : distinct (types_in r.components) ≡ true
@@ -35,7 +35,7 @@ pub record SoundParts (r : Said) : Type 0 where
   pub values : every allowed r.components ≡ true
   pub mode : allowed_mode r.descriptor.mode ≡ true
 
-pub sound_parts : (r : Said) → sound_rule r ≡ true → SoundParts r
+pub sound_parts : (r : SteeringRule) → sound_rule r ≡ true → SoundParts r
 sound_parts r h =
     let cs = r.components in
     let a = and_parts (holds 1 r.precedence) (sound_components cs && allowed_mode r.descriptor.mode) h in
@@ -52,7 +52,7 @@ sound_parts r h =
       mode = b.1;
     }
 
-pub parts_sound : (r : Said) → SoundParts r → sound_rule r ≡ true
+pub parts_sound : (r : SteeringRule) → SoundParts r → sound_rule r ≡ true
 parts_sound r p =
     and_from _ _ (lt-ltb r.precedence 256 p.precedence)
     (and_from _ _ (and_from _ _ (le-leb 1 _ p.some) (and_from _ _ p.differ (and_from _ _ p.alone p.values))) p.mode)
@@ -71,14 +71,14 @@ frame_ok xs n m e f some inside full =
     ∙ ap₂ (λ a b. Ok (record { precedence = get_or xs 2 0; components = a; size = 2 + b })) f e
 
 -- what a frame that was read shows
-record FrameRead (xs : List ℕ) (f : Framed) : Type 0 where
+record FrameRead (xs : List ℕ) (f : FrameFields) : Type 0 where
   precedence : f.precedence ≡ get_or xs 2 0
   components : f.components ≡ field 3 2 xs
   size : f.size ≡ 2 + field 0 2 xs
   inside : f.size ≤ length xs
   full : (f.size ≡ f.components + 8) ⊎ (f.size ≡ f.components + 9)
 
-frame_inv : (xs : List ℕ) (f : Framed) → frame_from xs ≡ Ok f → FrameRead xs f
+frame_inv : (xs : List ℕ) (f : FrameFields) → frame_from xs ≡ Ok f → FrameRead xs f
 frame_inv xs f e =
     let n = field 0 2 xs in
     let m = field 3 2 xs in
@@ -100,7 +100,7 @@ frame_inv xs f e =
 
 -- ---- what is written is read back
 
-module _ (r : Said) (rest : List ℕ) (sound : sound_rule r ≡ true) where
+module _ (r : SteeringRule) (rest : List ℕ) (sound : sound_rule r ≡ true) where
   abbrev cs : List ℕ
   cs = components_octets r.components
 
@@ -128,7 +128,7 @@ module _ (r : Said) (rest : List ℕ) (sound : sound_rule r ≡ true) where
   components_length : field 3 2 xs ≡ length cs
   components_length = number_be 2 (length cs) (omega (arith, few))
 
-  abbrev frame : Framed
+  abbrev frame : FrameFields
   frame = record { precedence = r.precedence; components = length cs; size = 2 + length (rule_body r) }
 
   framed : frame_from xs ≡ Ok frame
@@ -161,7 +161,7 @@ module _ (r : Said) (rest : List ℕ) (sound : sound_rule r ≡ true) where
 
 -- ---- what is read is what was written
 
-pub record RuleIsRead (met : ℕ → Bool) (xs : List ℕ) (r : Said) (n : ℕ) : Type 0 where
+pub record RuleIsRead (met : ℕ → Bool) (xs : List ℕ) (r : SteeringRule) (n : ℕ) : Type 0 where
   pub octets : rule_octets r ≡ take n xs
   pub inside : n ≤ length xs
   pub sound : sound_rule r ≡ true
@@ -175,7 +175,7 @@ take_two m k ys h =
     (λ i. front i ++ back i) ∙ take-append-drop m (take k ys)
 
 -- the octets of a rule, from those of its parts
-parts_octets : (xs : List ℕ) (f : Framed) (r : Said) → Octets xs → FrameRead xs f → r.precedence ≡ f.precedence
+parts_octets : (xs : List ℕ) (f : FrameFields) (r : SteeringRule) → Octets xs → FrameRead xs f → r.precedence ≡ f.precedence
     → components_octets r.components ≡ components_part f xs → descriptor_octets r.descriptor ≡ descriptor_part f xs → rule_octets r ≡ take f.size xs
 parts_octets [] f r o shown p c d = absurd (omega (arith, shown.inside, shown.full))
 parts_octets (x₁ ∷ []) f r o shown p c d = absurd (omega (arith, shown.inside, shown.full))
@@ -231,7 +231,7 @@ row_read ys es o e =
     row_of ys ds es (cc) some (components_read [] 0 ys ds o refl refl rowed)
 
 -- what the parts of a rule were read as
-record PartsRead (met : ℕ → Bool) (xs : List ℕ) (r : Said) (n : ℕ) (f : Framed) : Type 0 where
+record PartsRead (met : ℕ → Bool) (xs : List ℕ) (r : SteeringRule) (n : ℕ) (f : FrameFields) : Type 0 where
   framed : frame_from xs ≡ Ok f
   components : components_in (components_part f xs) ≡ Ok r.components
   descriptor : descriptor_from (descriptor_part f xs) ≡ Some r.descriptor
@@ -239,14 +239,14 @@ record PartsRead (met : ℕ → Bool) (xs : List ℕ) (r : Said) (n : ℕ) (f : 
   precedence : r.precedence ≡ f.precedence
   size : n ≡ f.size
 
-module _ (met : ℕ → Bool) (ys : List ℕ) (r : Said) (n : ℕ) where
-  last_inv : (f : Framed) (es : List Component) (d : Descriptor) → frame_from ys ≡ Ok f → components_in (components_part f ys) ≡ Ok es → descriptor_from (descriptor_part f ys) ≡ Some d
-      → refuse_if {A = Said × ℕ} (met f.precedence) refusal.Precedence (Ok (record { precedence = f.precedence; components = es; descriptor = d }, f.size)) ≡ Ok (r, n)
+module _ (met : ℕ → Bool) (ys : List ℕ) (r : SteeringRule) (n : ℕ) where
+  last_inv : (f : FrameFields) (es : List Component) (d : Descriptor) → frame_from ys ≡ Ok f → components_in (components_part f ys) ≡ Ok es → descriptor_from (descriptor_part f ys) ≡ Some d
+      → refuse_if {A = SteeringRule × ℕ} (met f.precedence) refusal.Precedence (Ok (record { precedence = f.precedence; components = es; descriptor = d }, f.size)) ≡ Ok (r, n)
       → PartsRead met ys r n f
   last_inv f es d shown components descriptor e =
       let (fresh, e₁) = refuse_inv (met f.precedence) refusal.Precedence _ (r, n) e in
-      let said : Said = record { precedence = f.precedence; components = es; descriptor = d } in
-      let is : ◌≡◌ {A = Said × ℕ} (said, f.size) (r, n) = cc in
+      let whole : SteeringRule = record { precedence = f.precedence; components = es; descriptor = d } in
+      let is : ◌≡◌ {A = SteeringRule × ℕ} (whole, f.size) (r, n) = cc in
       record {
         framed = shown;
         components = components ∙ ap (λ x. Ok x.0.components) is;
@@ -256,14 +256,14 @@ module _ (met : ℕ → Bool) (ys : List ℕ) (r : Said) (n : ℕ) where
         size = ap (λ x. x.1) (sym is);
       }
 
-  descriptor_inv : (f : Framed) (es : List Component) → frame_from ys ≡ Ok f → components_in (components_part f ys) ≡ Ok es
-      → after {B = Said × ℕ} (found_or (descriptor_from (descriptor_part f ys)) refusal.Descriptor) (λ d. refuse_if {A = Said × ℕ} (met f.precedence) refusal.Precedence (Ok (record { precedence = f.precedence; components = es; descriptor = d }, f.size))) ≡ Ok (r, n)
+  descriptor_inv : (f : FrameFields) (es : List Component) → frame_from ys ≡ Ok f → components_in (components_part f ys) ≡ Ok es
+      → after {B = SteeringRule × ℕ} (found_or (descriptor_from (descriptor_part f ys)) refusal.Descriptor) (λ d. refuse_if {A = SteeringRule × ℕ} (met f.precedence) refusal.Precedence (Ok (record { precedence = f.precedence; components = es; descriptor = d }, f.size))) ≡ Ok (r, n)
       → PartsRead met ys r n f
   descriptor_inv f es shown components e =
       let (d, found, e₁) = after_inv (found_or (descriptor_from (descriptor_part f ys)) refusal.Descriptor) _ (r, n) e in
       last_inv f es d shown components (found_inv _ refusal.Descriptor d found) e₁
 
-  rule_inv : rule_from met ys ≡ Ok (r, n) → (f : Framed) × PartsRead met ys r n f
+  rule_inv : rule_from met ys ≡ Ok (r, n) → (f : FrameFields) × PartsRead met ys r n f
   rule_inv e =
       let (f, shown, e₁) = after_inv (frame_from ys) _ (r, n) e in
       let (es, found, e₂) = after_inv (components_in (components_part f ys)) _ (r, n) e₁ in
@@ -272,7 +272,7 @@ module _ (met : ℕ → Bool) (ys : List ℕ) (r : Said) (n : ℕ) where
   pub rule_read : Octets ys → rule_from met ys ≡ Ok (r, n) → RuleIsRead met ys r n
   rule_read o e = of_parts (rule_inv e).0 (rule_inv e).1
     where
-      of_parts : (f : Framed) → PartsRead met ys r n f → RuleIsRead met ys r n
+      of_parts : (f : FrameFields) → PartsRead met ys r n f → RuleIsRead met ys r n
       of_parts f p =
           let shown = frame_inv ys f p.framed in
           let row = row_read (components_part f ys) r.components (octets_take f.components (drop 5 ys) (octets_drop 5 ys o)) p.components in

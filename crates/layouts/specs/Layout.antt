@@ -5,7 +5,7 @@ use Rattle.octets.specs.Numbers.{be}
 use Rattle.terms.specs.Accesses.{code_of}
 use Rattle.terms.specs.declared.access.Access.TheVariants.{ThreeGpp, NonThreeGpp}
 use Rattle.rules.specs.Components.{type_of, kind_in}
-use Rattle.rules.specs.Rules.{Said}
+use Rattle.rules.specs.Rules.{SteeringRule}
 use Rattle.rules.specs.declared.component.Component.{Component}
 use Rattle.rules.specs.declared.component.Component.TheVariants.{MatchAll, Ipv4, Ipv6, Protocol, Port, PortRange, SecurityIndex, ServiceType, FlowLabel}
 use Rattle.rules.specs.declared.descriptor.Descriptor.{Descriptor}
@@ -52,8 +52,8 @@ abbrev pub descriptor_octets : Descriptor → List ℕ
 descriptor_octets d = (3 + length (information d.mode)) ∷ (functionality_code d.functionality ∷ (mode_code d.mode ∷ information d.mode))
 
 -- a rule without its length, which stands first and counts these octets
-abbrev pub rule_body : Said → List ℕ
+abbrev pub rule_body : SteeringRule → List ℕ
 rule_body r = r.precedence ∷ (be 2 (length (components_octets r.components)) ++ (components_octets r.components ++ descriptor_octets r.descriptor))
 
-abbrev pub rule_octets : Said → List ℕ
+abbrev pub rule_octets : SteeringRule → List ℕ
 rule_octets r = be 2 (length (rule_body r)) ++ rule_body r

@@ -7,7 +7,7 @@ use Rattle.terms.specs.declared.refusal.Refusal.{Refusal}
 use Rattle.terms.specs.declared.refusal.Refusal.TheVariants as refusal
 use Rattle.rules.specs.Components.{type_of, kind_of, kind_in, allowed}
 use Rattle.rules.specs.Descriptors.{functionality_from}
-use Rattle.rules.specs.Rules.{Said, types_in}
+use Rattle.rules.specs.Rules.{SteeringRule, types_in}
 use Rattle.rules.specs.declared.component.Kind.{Kind}
 use Rattle.rules.specs.declared.component.Kind.TheVariants as kind
 use Rattle.rules.specs.declared.component.Component.{Component}
@@ -102,13 +102,13 @@ descriptor_from xs =
     (descriptor_of (functionality_from (slice_index xs 1)) (mode_from (slice_index xs 2) (drop 3 xs))) None
 
 -- the frame of a rule: its precedence, how many octets its components have, and how many it has in all
-pub record Framed : Type 0 where
+pub record FrameFields : Type 0 where
   pub precedence : ℕ
   pub components : ℕ
   pub size : ℕ
 
 -- the length, which counts what follows it; the components and a descriptor of 3 or 4 octets fill that
-abbrev pub frame_from : List ℕ → Result Framed Refusal
+abbrev pub frame_from : List ℕ → Result FrameFields Refusal
 frame_from xs =
     refuse_if (nat_lt (length xs) 2) refusal.Frame (
     refuse_if (nat_lt (field 0 2 xs) 3 || nat_lt (length xs) (2 + field 0 2 xs)) refusal.Frame (
@@ -116,7 +116,7 @@ frame_from xs =
     Ok (record { precedence = slice_index xs 2; components = field 3 2 xs; size = 2 + field 0 2 xs }))))
 
 -- one rule at the front of the octets, and how many it takes; a precedence that was met is refused
-abbrev pub rule_from : (ℕ → Bool) → List ℕ → Result (Said × ℕ) Refusal
+abbrev pub rule_from : (ℕ → Bool) → List ℕ → Result (SteeringRule × ℕ) Refusal
 rule_from met xs =
     after (frame_from xs) (λ f.
     after (components_in (take f.components (drop 5 xs))) (λ cs.

@@ -23,7 +23,7 @@ fn active_from(information: u8) -> Option<Mode>
     Some(Mode::ActiveStandby { active, standby })
 }
 
-// By a `match`: with `ok()?` the proof was not found.
+// A `match`, since no proof is found for `ok()?`.
 fn priority_from(information: u8) -> Option<Mode>
     ensures { result ≡ priority_from information }
 {
@@ -39,7 +39,7 @@ fn mode_from(code: u8, information: &[u8]) -> Option<Mode>
     match (code, information) {
         (1, [i]) => active_from(*i),
         (2, []) => Some(Mode::SmallestDelay),
-        (3, [k]) if 1 <= *k && *k <= 11 => Some(Mode::LoadBalancing { k: *k }),
+        (3, [k @ 1..=11]) => Some(Mode::LoadBalancing { k: *k }),
         (4, [i]) => priority_from(*i),
         _ => None,
     }
@@ -60,8 +60,7 @@ pub(crate) fn read_descriptor(octets: &[u8]) -> Result<Descriptor, Refusal>
     })
 }
 
-// The octet for the kind of mode; with that of its information it is the mode,
-// so it is no conversion by itself.
+// The octet that names the mode. It is no conversion, since a mode also has its information.
 fn mode_code(mode: Mode) -> u8
     ensures { result ≡ mode_code mode }
 {

@@ -13,8 +13,8 @@ pub(crate) trait InOctets {
     ghost octets: { Self → List ℕ };
 
     // Writes them into memory from a place on, and gives the place behind them.
-    // The two are lent as the public calls have them: around both, a struct would
-    // only put its own two fields into every clause.
+    // Memory and place are two parameters, as in the public calls: a struct of both
+    // would only add its fields to every clause.
     fn place(&self, memory: &mut [u8], at: usize) -> usize
         requires { at + length (octets self.now) ≤ length memory.old }
         ensures value { result ≡ at + length (octets self.now) }
@@ -54,7 +54,7 @@ impl<T: InOctets, const N: usize> InOctets for AtMost<T, N> {
     ghost octets = { λ items. flat_map T.octets (listed items) };
 
     fn place(&self, memory: &mut [u8], at: usize) -> usize {
-        // by a loop; tried: after `fold` nothing is known of the memory that its closure writes
+        // a loop, since after a `fold` nothing is known of the memory that its closure writes
         let mut end = at;
         for item in self.as_slice() {
             end = item.place(memory, end);
@@ -87,7 +87,7 @@ pub(crate) fn size_of_all<T: Measured>(items: &[T]) -> usize
     ensures value { result ≡ length (flat_map T.octets items.now) }
     ensures bound { result ≤ T.most * length items.now }
 {
-    // by a loop; tried: `sum` asks beforehand that all fit, and an item tells only its own bound
+    // a loop, since `sum` asks beforehand that all fit, and an item tells only its own bound
     let mut size = 0;
     for item in items {
         size += item.size();

@@ -2,12 +2,12 @@
 ghost use Rattle.std.specs.Prelude.{◌≡◌, ◌+◌, ◌≤◌, length, IfOk, Ok};
 ghost use Rattle.terms.specs.Replies.{seen_as};
 ghost use Rattle.rules.specs.Lists.{listed};
-ghost use Rattle.rules.specs.Rules.{saying};
+ghost use Rattle.rules.specs.Rules.{rule_of};
 ghost use Rattle.layouts.specs.Layout.{rule_body, rule_octets};
 ghost use Rattle.layouts.specs.Memory.{Writes};
 ghost use Rattle.layouts.specs.Precedence.{has};
 ghost use Rattle.layouts.specs.Reading.{frame_from, rule_from};
-ghost use Rattle.layouts.specs.Rule.{framing, ruling, octets_of_rules};
+ghost use Rattle.layouts.specs.Rule.{frame_of, rule_and_size, octets_of_rules};
 
 use crate::components::read_components;
 use crate::descriptors::read_descriptor;
@@ -27,7 +27,7 @@ struct Frame {
 }
 
 fn read_frame(octets: &[u8]) -> Result<Frame, Refusal>
-    ensures value { seen_as framing result ≡ frame_from octets.now }
+    ensures value { seen_as frame_of result ≡ frame_from octets.now }
     ensures inside { IfOk result (λ f. (5 + f.components ≤ f.size) × (f.size ≤ length octets.now)) }
 {
     if octets.len() < 2 {
@@ -57,7 +57,7 @@ pub struct RuleRead {
 
 // The rule at the front of the octets; its precedence may not be one of those met before.
 pub fn read_rule(octets: &[u8], met: &Precedences) -> Result<RuleRead, Refusal>
-    ensures value { seen_as ruling result ≡ rule_from (has met.now) octets.now }
+    ensures value { seen_as rule_and_size result ≡ rule_from (has met.now) octets.now }
     ensures inside { IfOk result (λ x. x.size ≤ length octets.now) }
 {
     let frame = read_frame(octets)?;
@@ -66,9 +66,9 @@ pub fn read_rule(octets: &[u8], met: &Precedences) -> Result<RuleRead, Refusal>
 
 // The rule that this frame holds.
 fn read_framed(frame: Frame, octets: &[u8], met: &Precedences) -> Result<RuleRead, Refusal>
-    requires framed { frame_from octets.now ≡ Ok (framing frame) }
+    requires framed { frame_from octets.now ≡ Ok (frame_of frame) }
     requires inside { (5 + frame.components ≤ frame.size) × (frame.size ≤ length octets.now) }
-    ensures value { seen_as ruling result ≡ rule_from (has met.now) octets.now }
+    ensures value { seen_as rule_and_size result ≡ rule_from (has met.now) octets.now }
     ensures inside { IfOk result (λ x. x.size ≤ length octets.now) }
 {
     let Frame {
@@ -92,7 +92,7 @@ fn read_framed(frame: Frame, octets: &[u8], met: &Precedences) -> Result<RuleRea
 
 // How many octets the rule has.
 pub fn rule_size(rule: &Rule) -> usize
-    ensures value { result ≡ length (rule_octets (saying rule.now)) }
+    ensures value { result ≡ length (rule_octets (rule_of rule.now)) }
     ensures bound { result ≤ 153 }
 {
     2 + body_size(rule)
@@ -100,14 +100,14 @@ pub fn rule_size(rule: &Rule) -> usize
 
 // How many octets follow the rule's length.
 fn body_size(rule: &Rule) -> usize
-    ensures value { result ≡ length (rule_body (saying rule.now)) }
+    ensures value { result ≡ length (rule_body (rule_of rule.now)) }
     ensures bound { result ≤ 151 }
 {
     3 + size_of_all(rule.components.as_slice()) + rule.descriptor.size()
 }
 
 impl InOctets for Rule {
-    ghost octets = { λ rule. rule_octets (saying rule) };
+    ghost octets = { λ rule. rule_octets (rule_of rule) };
 
     fn place(&self, memory: &mut [u8], at: usize) -> usize {
         let [b0, b1] = octets_of::<2>(body_size(self) as u128);
@@ -135,7 +135,7 @@ impl Measured for Rules {
 
 // Writes the rule into the memory from a place on, and gives the place behind it.
 pub fn write_rule(rule: &Rule, memory: &mut [u8], at: usize) -> Result<usize, Refusal>
-    ensures { Writes at (rule_octets (saying rule.now)) memory.old result memory.new }
+    ensures { Writes at (rule_octets (rule_of rule.now)) memory.old result memory.new }
 {
     write(rule, memory, at)
 }

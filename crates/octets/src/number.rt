@@ -22,8 +22,7 @@ pub fn octets_of<const N: usize>(number: u128) -> [u8; N]
 {
     let mut octets = [0; N];
     let mut rest = number;
-    // By index. Tried: a loop over `iter_mut().rev()` lends the array out, and its invariant
-    // cannot speak of it.
+    // by index, since the invariant of a loop over `iter_mut().rev()` cannot speak of the array
     for i in (0..N).rev() {
         octets[i] = (rest % 256) as u8;
         rest /= 256;

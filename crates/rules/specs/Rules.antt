@@ -11,13 +11,13 @@ use Rattle.rules.specs.declared.descriptor.Mode.TheVariants.{SmallestDelay}
 use Rattle.rules.specs.declared.rule.Rule.{Rule}
 
 -- a rule, by what it says
-pub record Said : Type 0 where
+pub record SteeringRule : Type 0 where
   pub precedence : ℕ
   pub components : List Component
   pub descriptor : Descriptor
 
-abbrev pub saying : Rule → Said
-saying r = record { precedence = r.precedence; components = listed r.components; descriptor = r.descriptor }
+abbrev pub rule_of : Rule → SteeringRule
+rule_of r = record { precedence = r.precedence; components = listed r.components; descriptor = r.descriptor }
 
 -- what stands where there is no rule: a rule of no component
 abbrev pub empty_rule : Rule
@@ -29,7 +29,7 @@ empty_rule =
     }
 
 -- whether two rules say the same
-abbrev pub same_rule : Said → Said → Bool
+abbrev pub same_rule : SteeringRule → SteeringRule → Bool
 same_rule x y = x.precedence == y.precedence && (pointwise same_component x.components y.components && same_descriptor x.descriptor y.descriptor)
 
 abbrev pub elem : ℕ → List ℕ → Bool
@@ -55,9 +55,9 @@ all_alone ts = not (elem 0x01 ts) || length ts == 1
 abbrev pub sound_components : List Component → Bool
 sound_components cs = nat_le 1 (length cs) && (distinct (types_in cs) && (all_alone (types_in cs) && every allowed cs))
 
-abbrev pub sound_rule : Said → Bool
+abbrev pub sound_rule : SteeringRule → Bool
 sound_rule r = holds 1 r.precedence && (sound_components r.components && allowed_mode r.descriptor.mode)
 
 -- 1 to 128 rules, each of them sound, and their precedences differ
-abbrev pub sound : List Said → Bool
+abbrev pub sound : List SteeringRule → Bool
 sound rs = nat_le 1 (length rs) && (nat_le (length rs) 128 && (every sound_rule rs && distinct (map (λ r. r.precedence) rs)))

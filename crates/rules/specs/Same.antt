@@ -5,7 +5,7 @@ use Rattle.std.proofs.lemmas.Slice.Eq.{slice_eq-Decides}
 use Rattle.std.proofs.lemmas.Bool.Decides.{nat_tests, Decides-and, Decides-eqb, Decides-like}
 use Rattle.rules.specs.Components.{same_component}
 use Rattle.rules.specs.Descriptors.{same_functionality, same_mode, same_descriptor}
-use Rattle.rules.specs.Rules.{Said, same_rule}
+use Rattle.rules.specs.Rules.{SteeringRule, same_rule}
 use Rattle.rules.specs.contracts.component.ComponentPartialEq.TheImpl as ComponentPartialEq
 use Rattle.rules.specs.contracts.descriptor.DescriptorPartialEq.TheImpl as DescriptorPartialEq
 use Rattle.rules.specs.declared.component.Component.{Component}
@@ -41,7 +41,7 @@ pub same_component_equiv : IsEquivalence same_component
 same_component_equiv = decided same_component same_component-Decides
 
 -- rules say the same exactly where the parts of what they say are equal
-pub same_rule-Decides : (x y : Said) → Decides (same_rule x y) (x ≡ y)
+pub same_rule-Decides : (x y : SteeringRule) → Decides (same_rule x y) (x ≡ y)
 same_rule-Decides x y =
     Decides-like _ (λ p. (λ i. record { precedence = p.0 i; components = p.1.0 i; descriptor = p.1.1 i }))
     (λ e. (ap (λ s. s.precedence) e, (ap (λ s. s.components) e, ap (λ s. s.descriptor) e)))

@@ -1,17 +1,12 @@
 // Lists of bounded length, in memory of a fixed size.
 ghost use Rattle.std.specs.Prelude.{◌≡◌, ◌≤◌, length};
-ghost use Rattle.rules.specs.Lists.{listed, none_of, Pushes};
+ghost use Rattle.rules.specs.Lists.{listed, Pushes};
 ghost use Rattle.terms.specs.declared.refusal.Refusal.{Refusal as Refused};
 
 use terms::{Refusal, front};
 
 // What such a list has to know of its items.
 pub trait Item: Copy {
-    // what stands where there is no item
-    ghost BLANK: { Self };
-
-    const BLANK: Self;
-
     // how one item too many is refused
     ghost FULL: { Refused };
 
@@ -36,15 +31,6 @@ impl<T, const N: usize> AtMost<T, N> {
 }
 
 impl<T: Item, const N: usize> AtMost<T, N> {
-    pub fn none() -> AtMost<T, N>
-        ensures { result ≡ none_of T.BLANK }
-    {
-        AtMost {
-            array: [T::BLANK; N],
-            count: 0,
-        }
-    }
-
     // One item more, behind the others.
     pub fn push(&mut self, item: T) -> Result<(), Refusal>
         ensures { Pushes T.FULL self.old item result self.new }

@@ -2,8 +2,7 @@
 ghost use Rattle.std.specs.Prelude.{◌≡◌};
 ghost use Rattle.terms.specs.Replies.{found_or};
 ghost use Rattle.terms.specs.declared.refusal.Refusal.TheVariants as refusal;
-ghost use Rattle.rules.specs.Components.{type_of, kind_of, kind_in, allowed};
-ghost use Rattle.rules.specs.declared.component.Component.TheVariants.{MatchAll};
+ghost use Rattle.rules.specs.Components.{type_of, kind_of, kind_in, allowed, no_components};
 
 use crate::at_most::{AtMost, Item};
 use terms::Refusal;
@@ -95,12 +94,8 @@ impl Component {
     }
 }
 
-// A place with no component, and a ninth component.
+// A ninth component.
 impl Item for Component {
-    ghost BLANK = { MatchAll };
-
-    const BLANK: Component = Component::MatchAll;
-
     ghost FULL = { refusal.Components };
 
     const FULL: Refusal = Refusal::Components;
@@ -111,3 +106,15 @@ pub const MOST_COMPONENTS: usize = 8;
 
 // The components of a rule, in their order.
 pub type Components = AtMost<Component, MOST_COMPONENTS>;
+
+impl Components {
+    // No component; what stands in the places means nothing.
+    pub fn none() -> Components
+        ensures { result ≡ no_components }
+    {
+        Components {
+            array: [Component::MatchAll; MOST_COMPONENTS],
+            count: 0,
+        }
+    }
+}

@@ -6,5 +6,4 @@ ghost use Rattle.rules.specs.Same.{ComponentsCompared, DescriptorsCompared};
 pub fn equality_is_exact()
     ensures components { ComponentsCompared }
     ensures descriptors { DescriptorsCompared }
-{
-}
+{}

@@ -3,7 +3,8 @@ ghost use Rattle.std.specs.Prelude.{◌≡◌, ◌↔◌, IsTrue};
 ghost use Rattle.std.specs.Cmp.{on_equiv, partial_equiv_from_equiv};
 ghost use Rattle.std.specs.Ordering.{on};
 ghost use Rattle.terms.specs.declared.refusal.Refusal.TheVariants.{RuleCount};
-ghost use Rattle.rules.specs.Rules.{empty_rule, saying, same_rule};
+ghost use Rattle.rules.specs.Lists.{none_of};
+ghost use Rattle.rules.specs.Rules.{empty_rule, rule_of, same_rule};
 ghost use Rattle.rules.specs.Same.{same_rule_equiv};
 
 use crate::at_most::{AtMost, Item};
@@ -18,17 +19,16 @@ pub struct Rule {
     pub descriptor: Descriptor,
 }
 
-// Rules are equal where they say the same; what lies behind the count of
-// components is nothing that they say, so a derive would compare too much. Over an `==`
-// of the list it would not, but would have no clause that promises when it is true.
+// Rules are equal where they say the same. By hand, since a derive would also compare the
+// places behind the last component, which say nothing.
 impl PartialEq for Rule {
-    ghost eq = { on saying same_rule };
+    ghost eq = { on rule_of same_rule };
 
-    ghost laws = { partial_equiv_from_equiv (on_equiv saying same_rule_equiv) };
+    ghost laws = { partial_equiv_from_equiv (on_equiv rule_of same_rule_equiv) };
 
     fn eq(&self, other: &Rule) -> bool
-        ensures value { result ≡ same_rule (saying self.now) (saying other.now) }
-        ensures decides { IsTrue result ↔ (saying self.now ≡ saying other.now) }
+        ensures value { result ≡ same_rule (rule_of self.now) (rule_of other.now) }
+        ensures decides { IsTrue result ↔ (rule_of self.now ≡ rule_of other.now) }
     {
         if self.precedence != other.precedence || self.descriptor != other.descriptor {
             return false;
@@ -38,25 +38,11 @@ impl PartialEq for Rule {
 }
 
 impl Eq for Rule {
-    ghost laws = { on_equiv saying same_rule_equiv };
+    ghost laws = { on_equiv rule_of same_rule_equiv };
 }
 
-// A place with no rule, and one rule too many.
+// One rule too many.
 impl Item for Rule {
-    ghost BLANK = { empty_rule };
-
-    const BLANK: Rule = Rule {
-        precedence: 0,
-        components: Components {
-            array: [Component::MatchAll; MOST_COMPONENTS],
-            count: 0,
-        },
-        descriptor: Descriptor {
-            functionality: Functionality::OnlyOne,
-            mode: Mode::SmallestDelay,
-        },
-    };
-
     ghost FULL = { RuleCount };
 
     const FULL: Refusal = Refusal::RuleCount;
@@ -65,5 +51,30 @@ impl Item for Rule {
 // The most rules that a sheet has.
 pub const MOST_RULES: usize = 128;
 
-// The rules of a sheet, in their order.
+// The table of a sheet's rules, in their order.
 pub type Rules = AtMost<Rule, MOST_RULES>;
+
+// What stands in a place of the table that has no rule.
+const EMPTY_RULE: Rule = Rule {
+    precedence: 0,
+    components: Components {
+        array: [Component::MatchAll; MOST_COMPONENTS],
+        count: 0,
+    },
+    descriptor: Descriptor {
+        functionality: Functionality::OnlyOne,
+        mode: Mode::SmallestDelay,
+    },
+};
+
+impl Rules {
+    // No rule: the empty rule, repeated in each of the 128 places.
+    pub fn none() -> Rules
+        ensures { result ≡ none_of empty_rule }
+    {
+        Rules {
+            array: [EMPTY_RULE; MOST_RULES],
+            count: 0,
+        }
+    }
+}

@@ -4,7 +4,7 @@ use Rattle.std.proofs.lemmas.Bool.{le-ltb, lt-ltb, ne_eqb, or_from, or_left, or_
 use Rattle.terms.specs.declared.refusal.Refusal.{Refusal}
 use Rattle.terms.specs.declared.refusal.Refusal.TheVariants.{SheetSize}
 use Rattle.terms.proofs.Replies.{after_ok, after_err, refuse_not, refuse_so}
-use Rattle.rules.specs.Rules.{Said}
+use Rattle.rules.specs.Rules.{SteeringRule}
 use Rattle.sheets.specs.Reading.{rules_from, count_in, distance_in, heading_in, sheet_from}
 
 pub size_refused : (ys : List ℕ) → (length ys < 3) ⊎ ((3 ≤ length ys) × (16384 < length ys)) → sheet_from ys ≡ Err SheetSize
@@ -28,5 +28,5 @@ module _ (ys : List ℕ) (three : 3 ≤ length ys) (limit : length ys ≤ 16384)
       pub rules_refused : (e : Refusal) → rules_from (count_in ys) [] (take (distance_in ys) (drop (heading_in ys) ys)) ≡ Err e → sheet_from ys ≡ Err e
       rules_refused e r = refuse_not _ _ sized ∙ refuse_not _ _ counted ∙ refuse_not _ _ distanced ∙ after_err _ r
 
-      pub accepted : (rs : List Said) → rules_from (count_in ys) [] (take (distance_in ys) (drop (heading_in ys) ys)) ≡ Ok rs → sheet_from ys ≡ Ok (heading_in ys, rs)
+      pub accepted : (rs : List SteeringRule) → rules_from (count_in ys) [] (take (distance_in ys) (drop (heading_in ys) ys)) ≡ Ok rs → sheet_from ys ≡ Ok (heading_in ys, rs)
       accepted rs r = refuse_not _ _ sized ∙ refuse_not _ _ counted ∙ refuse_not _ _ distanced ∙ after_ok _ r

@@ -8,7 +8,7 @@ use Rattle.octets.proofs.Numbers.{be_number, number_be, octets_drop, octets_take
 use Rattle.terms.specs.declared.refusal.Refusal.{Refusal}
 use Rattle.terms.specs.declared.refusal.Refusal.TheVariants as refusal
 use Rattle.terms.proofs.Replies.{after_ok, after_inv, refuse_not, refuse_inv}
-use Rattle.rules.specs.Rules.{Said, elem, every, distinct, sound_rule, sound}
+use Rattle.rules.specs.Rules.{SteeringRule, elem, every, distinct, sound_rule, sound}
 use Rattle.rules.proofs.Sound.{eqb_flip, distinct_push}
 use Rattle.layouts.specs.Layout.{rule_octets}
 use Rattle.layouts.specs.Reading.{rule_from}
@@ -29,7 +29,7 @@ not_before t (s ∷ ss) rest d =
     not_in x [] e = (or_parts (eqb x t) (elem x rest) e).0
     not_in x (w ∷ ys) e = not_in x ys (or_parts (eqb x w) (elem x (ys ++ (t ∷ rest))) e).1
 
-pub rules_written : (rs before : List Said) → every sound_rule rs ≡ true → distinct (precedences (before ++ rs)) ≡ true → rules_from (length rs) before (rules_octets rs) ≡ Ok (before ++ rs)
+pub rules_written : (rs before : List SteeringRule) → every sound_rule rs ≡ true → distinct (precedences (before ++ rs)) ≡ true → rules_from (length rs) before (rules_octets rs) ≡ Ok (before ++ rs)
 rules_written [] before s d = ap (λ l. Ok l) (sym (append-nil before))
 rules_written (r ∷ rs) before s d =
     let p = and_parts (sound_rule r) (every sound_rule rs) s in
@@ -42,15 +42,15 @@ rules_written (r ∷ rs) before s d =
     ∙ ap (λ l. Ok l) (sym next)
 
 -- what rules that were read show
-pub record RulesRead (before : List Said) (n : ℕ) (xs : List ℕ) (rs : List Said) : Type 0 where
-  pub more : List Said
+pub record RulesRead (before : List SteeringRule) (n : ℕ) (xs : List ℕ) (rs : List SteeringRule) : Type 0 where
+  pub more : List SteeringRule
   pub is : rs ≡ before ++ more
   pub octets : rules_octets more ≡ xs
   pub count : length more ≡ n
   pub sound_rules : every sound_rule more ≡ true
   pub differ : distinct (precedences rs) ≡ true
 
-pub rules_read : (n : ℕ) (before : List Said) (xs : List ℕ) (rs : List Said) → Octets xs → distinct (precedences before) ≡ true → rules_from n before xs ≡ Ok rs → RulesRead before n xs rs
+pub rules_read : (n : ℕ) (before : List SteeringRule) (xs : List ℕ) (rs : List SteeringRule) → Octets xs → distinct (precedences before) ≡ true → rules_from n before xs ≡ Ok rs → RulesRead before n xs rs
 rules_read zero before xs rs o d e =
     let (none, e₁) = refuse_inv (ltb 0 (length xs)) refusal.Surplus (Ok before) rs e in
     let same : before ≡ rs = cc in
@@ -79,23 +79,23 @@ rules_read (suc n) before xs rs o d e =
 -- ---- whole sheets
 
 -- the sentences of a sound set
-record SoundParts (rs : List Said) : Type 0 where
+record SoundParts (rs : List SteeringRule) : Type 0 where
   some : 1 ≤ length rs
   few : length rs ≤ 128
   each : every sound_rule rs ≡ true
   differ : distinct (precedences rs) ≡ true
 
-sound_parts : (rs : List Said) → sound rs ≡ true → SoundParts rs
+sound_parts : (rs : List SteeringRule) → sound rs ≡ true → SoundParts rs
 sound_parts rs h =
     let a = and_parts (leb 1 (length rs)) (leb (length rs) 128 && (every sound_rule rs && distinct (precedences rs))) h in
     let b = and_parts (leb (length rs) 128) (every sound_rule rs && distinct (precedences rs)) a.1 in
     let c = and_parts (every sound_rule rs) (distinct (precedences rs)) b.1 in
     record { some = leb-true 1 (length rs) a.0; few = leb-true (length rs) 128 b.0; each = c.0; differ = c.1 }
 
-parts_sound : (rs : List Said) → SoundParts rs → sound rs ≡ true
+parts_sound : (rs : List SteeringRule) → SoundParts rs → sound rs ≡ true
 parts_sound rs p = and_from _ _ (le-leb 1 (length rs) p.some) (and_from _ _ (le-leb (length rs) 128 p.few) (and_from _ _ p.each p.differ))
 
-module _ (h : List ℕ) (rs : List Said) (sounds : sound rs ≡ true) (limit : length (sheet_octets h rs) ≤ 16384) where
+module _ (h : List ℕ) (rs : List SteeringRule) (sounds : sound rs ≡ true) (limit : length (sheet_octets h rs) ≤ 16384) where
   abbrev body : List ℕ
   body = rules_octets rs
 
@@ -139,7 +139,7 @@ module _ (h : List ℕ) (rs : List Said) (sounds : sound rs ≡ true) (limit : l
       ∙ ap (λ n. Ok (n, rs)) heading_back
 
 -- what a sheet that was read shows
-module _ (ys : List ℕ) (o : Octets ys) (n : ℕ) (rs : List Said) where
+module _ (ys : List ℕ) (o : Octets ys) (n : ℕ) (rs : List SteeringRule) where
   abbrev last : ℕ
   last = length ys - 3
 
@@ -162,7 +162,7 @@ module _ (ys : List ℕ) (o : Octets ys) (n : ℕ) (rs : List Said) where
       sym ((λ i. take (head i) ys ++ rest i) ∙ take-append-drop k ys)
 
 -- the parts of a sheet that was read
-record PartsRead (ys : List ℕ) (n : ℕ) (rs : List Said) : Type 0 where
+record PartsRead (ys : List ℕ) (n : ℕ) (rs : List SteeringRule) : Type 0 where
   three : 3 ≤ length ys
   limit : length ys ≤ 16384
   some : 1 ≤ count_in ys
@@ -171,14 +171,14 @@ record PartsRead (ys : List ℕ) (n : ℕ) (rs : List Said) : Type 0 where
   read : rules_from (count_in ys) [] (take (distance_in ys) (drop (heading_in ys) ys)) ≡ Ok rs
   heading : n ≡ heading_in ys
 
-sheet_inv : (ys : List ℕ) (n : ℕ) (rs : List Said) → sheet_from ys ≡ Ok (n, rs) → PartsRead ys n rs
+sheet_inv : (ys : List ℕ) (n : ℕ) (rs : List SteeringRule) → sheet_from ys ≡ Ok (n, rs) → PartsRead ys n rs
 sheet_inv ys n rs e =
     let c = count_in ys in
     let (size, e₁) = refuse_inv (ltb (length ys) 3 || ltb 16384 (length ys)) refusal.SheetSize _ (n, rs) e in
     let (count, e₂) = refuse_inv (eqb c 0 || ltb 128 c) refusal.RuleCount _ (n, rs) e₁ in
     let (distance, e₃) = refuse_inv (ltb (length ys - 3) (distance_in ys)) refusal.Distance _ (n, rs) e₂ in
     let (qs, read, e₄) = after_inv (rules_from c [] (take (distance_in ys) (drop (heading_in ys) ys))) _ (n, rs) e₃ in
-    let is : ◌≡◌ {A = ℕ × List Said} (heading_in ys, qs) (n, rs) = cc in
+    let is : ◌≡◌ {A = ℕ × List SteeringRule} (heading_in ys, qs) (n, rs) = cc in
     let sizes = or_parts (ltb (length ys) 3) (ltb 16384 (length ys)) size in
     let counts = or_parts (eqb c 0) (ltb 128 c) count in
     record {
@@ -196,7 +196,7 @@ sheet_inv ys n rs e =
     pos (suc m) n = omega arith
 
 -- rules that were read are a sound set
-pub rules_sound : (n : ℕ) (ys : List ℕ) (rs : List Said) → Octets ys → 1 ≤ n → n ≤ 128 → rules_from n [] ys ≡ Ok rs → sound rs ≡ true
+pub rules_sound : (n : ℕ) (ys : List ℕ) (rs : List SteeringRule) → Octets ys → 1 ≤ n → n ≤ 128 → rules_from n [] ys ≡ Ok rs → sound rs ≡ true
 rules_sound n ys rs o some few e =
     let shown = rules_read n [] ys rs o refl e in
     let count : length rs ≡ n = ap length shown.is ∙ shown.count in
@@ -205,7 +205,7 @@ rules_sound n ys rs o some few e =
 part_octets : (ys : List ℕ) → Octets ys → Octets (take (distance_in ys) (drop (heading_in ys) ys))
 part_octets ys o = octets_take (distance_in ys) (drop (heading_in ys) ys) (octets_drop (heading_in ys) ys o)
 
-sheet_read : (ys : List ℕ) (n : ℕ) (rs : List Said) → Octets ys → sheet_from ys ≡ Ok (n, rs) → (n ≤ length ys) × Written ys (take n ys) rs
+sheet_read : (ys : List ℕ) (n : ℕ) (rs : List SteeringRule) → Octets ys → sheet_from ys ≡ Ok (n, rs) → (n ≤ length ys) × Written ys (take n ys) rs
 sheet_read ys n rs o e =
     let p = sheet_inv ys n rs e in
     let shown = rules_read (count_in ys) [] (take (distance_in ys) (drop (heading_in ys) ys)) rs (part_octets ys o) refl p.read in
@@ -220,12 +220,12 @@ sheet_read ys n rs o e =
     )
 
 -- a sheet that is written is read so
-reads : (ys h : List ℕ) (rs : List Said) → Written ys h rs → sheet_from ys ≡ Ok (length h, rs)
+reads : (ys h : List ℕ) (rs : List SteeringRule) → Written ys h rs → sheet_from ys ≡ Ok (length h, rs)
 reads ys h rs w = ap sheet_from w.layout ∙ sheet_written h rs w.sound_set (rw w.layout at w.limit)
 
 -- whatever is read keeps the law
-pub lawful : (ys : List ℕ) (r : Result (ℕ × List Said) Refusal) → Octets ys → r ≡ sheet_from ys → Lawful ys r
+pub lawful : (ys : List ℕ) (r : Result (ℕ × List SteeringRule) Refusal) → Octets ys → r ≡ sheet_from ys → Lawful ys r
 lawful ys (Ok x) o e =
     let p = sheet_read ys x.0 x.1 o (sym e) in
-    (p.0, p.1, λ h rs w. let is : ◌≡◌ {A = ℕ × List Said} (length h, rs) (x.0, x.1) = (let q = reads ys h rs w in cc) in (ap (λ y. y.0) is, ap (λ y. y.1) is))
+    (p.0, p.1, λ h rs w. let is : ◌≡◌ {A = ℕ × List SteeringRule} (length h, rs) (x.0, x.1) = (let q = reads ys h rs w in cc) in (ap (λ y. y.0) is, ap (λ y. y.1) is))
 lawful ys (Err d) o e = λ h rs w. let q = reads ys h rs w in let z : ◌≡◌ {A = ℕ} 0 1 = cc in omega arith

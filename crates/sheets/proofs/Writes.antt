@@ -4,7 +4,7 @@ use Rattle.std.proofs.lemmas.List.{take_at}
 use Rattle.std.proofs.lemmas.Bool.{and_from, le-leb}
 use Rattle.std.proofs.lemmas.Bool.Decides.{when_true}
 use Rattle.terms.specs.declared.refusal.Refusal.{Refusal}
-use Rattle.rules.specs.Rules.{Said, sound}
+use Rattle.rules.specs.Rules.{SteeringRule, sound}
 use Rattle.layouts.specs.Memory as memory
 use Rattle.layouts.proofs.Writes.{written_three, length-written}
 use Rattle.sheets.specs.Layout.{rules_octets, trailer, sheet_octets}
@@ -21,7 +21,7 @@ same_ok p q = cc
 
 -- ---- a whole sheet
 
-pub length_sheet : (h : List ℕ) (rs : List Said) → length (sheet_octets h rs) ≡ length h + length (rules_octets rs) + 3
+pub length_sheet : (h : List ℕ) (rs : List SteeringRule) → length (sheet_octets h rs) ≡ length h + length (rules_octets rs) + 3
 length_sheet h rs = length-append h (rules_octets rs ++ trailer rs) ∙ omega (arith, length-append (rules_octets rs) (trailer rs))
 
 when_from : {b : Bool} (P Q : Type 0) → b ≡ true → P → MatchBool b P Q
@@ -31,7 +31,7 @@ made_from : {r : Result ℕ Refusal} {n : ℕ} (P : ℕ → Type 0) → r ≡ Ok
 made_from P e p = subst (λ x. IfOk x P) (sym e) p
 
 -- three writes in a row are the sheet
-pub sheet_done : (h : List ℕ) (rs : List Said) (m ts : List ℕ) (a₁ a₂ : ℕ) (m₁ m₂ m₃ : List ℕ) (r : Result ℕ Refusal)
+pub sheet_done : (h : List ℕ) (rs : List SteeringRule) (m ts : List ℕ) (a₁ a₂ : ℕ) (m₁ m₂ m₃ : List ℕ) (r : Result ℕ Refusal)
     → ts ≡ trailer rs → length (sheet_octets h rs) ≤ 16384 → length (sheet_octets h rs) ≤ length m
     → memory.Writes 0 h m (Ok a₁) m₁ → memory.Writes a₁ (rules_octets rs) m₁ (Ok a₂) m₂ → memory.Writes a₂ ts m₂ r m₃
     → sound rs ≡ true

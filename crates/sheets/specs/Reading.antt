@@ -3,14 +3,14 @@ use Rattle.std.specs.Prelude.{ℕ, zero, suc, ◌-◌, ◌||◌, List, [], ◌�
 use Rattle.terms.specs.Replies.{refuse_if, after}
 use Rattle.terms.specs.declared.refusal.Refusal.{Refusal}
 use Rattle.terms.specs.declared.refusal.Refusal.TheVariants.{SheetSize, RuleCount, Distance, Surplus}
-use Rattle.rules.specs.Rules.{Said, elem}
+use Rattle.rules.specs.Rules.{SteeringRule, elem}
 use Rattle.layouts.specs.Reading.{field, rule_from}
 
-abbrev pub precedences : List Said → List ℕ
+abbrev pub precedences : List SteeringRule → List ℕ
 precedences rs = map (λ r. r.precedence) rs
 
 -- n rules from here on, behind those read so far, and nothing behind them
-abbrev pub rules_from : ℕ → List Said → List ℕ → Result (List Said) Refusal
+abbrev pub rules_from : ℕ → List SteeringRule → List ℕ → Result (List SteeringRule) Refusal
 rules_from zero before xs = refuse_if (nat_lt 0 (length xs)) Surplus (Ok before)
 rules_from (suc n) before xs = after (rule_from (λ p. elem p (precedences before)) xs) (λ x. rules_from n (before ++ (x.0 ∷ [])) (drop x.1 xs))
 
@@ -26,7 +26,7 @@ abbrev pub heading_in : List ℕ → ℕ
 heading_in xs = (length xs - 3) - distance_in xs
 
 -- the length of the heading, and the rules
-abbrev pub sheet_from : List ℕ → Result (ℕ × List Said) Refusal
+abbrev pub sheet_from : List ℕ → Result (ℕ × List SteeringRule) Refusal
 sheet_from xs =
     refuse_if (nat_lt (length xs) 3 || nat_lt 16384 (length xs)) SheetSize (
     refuse_if (count_in xs == 0 || nat_lt 128 (count_in xs)) RuleCount (

@@ -1,7 +1,7 @@
 // A sound set of rules.
 ghost use Rattle.std.specs.Prelude.{◌≡◌, true};
 ghost use Rattle.rules.specs.Rules.{sound};
-ghost use Rattle.sheets.specs.Tables.{said};
+ghost use Rattle.sheets.specs.Tables.{rules_in};
 
 use rules::Rules;
 
@@ -13,5 +13,5 @@ pub mod writing;
 #[derive(Clone, Copy)]
 pub struct RuleSet {
     table: Rules,
-    ghost sound: { sound (said table) ≡ true },
+    ghost sound: { sound (rules_in table) ≡ true },
 }

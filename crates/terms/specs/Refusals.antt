@@ -32,7 +32,7 @@ abbrev pub words_of : Refusal → List ℕ
 words_of SheetSize = codes "a sheet has 3 to 16384 octets"
 words_of RuleCount = codes "a sheet has 1 to 128 rules"
 words_of Distance = codes "the distance leads past the first octet of the sheet"
-words_of Frame = codes "a rule or a component does not fit its place"
+words_of Frame = codes "a rule, a component or a descriptor does not fit its place"
 words_of ComponentType = codes "unknown type of component"
 words_of Components = codes "a rule has no component, a type twice, or match-all beside another"
 words_of Value = codes "the component's value is out of range"

@@ -49,7 +49,7 @@ impl fmt::Display for Refusal {
             Refusal::SheetSize => "a sheet has 3 to 16384 octets",
             Refusal::RuleCount => "a sheet has 1 to 128 rules",
             Refusal::Distance => "the distance leads past the first octet of the sheet",
-            Refusal::Frame => "a rule or a component does not fit its place",
+            Refusal::Frame => "a rule, a component or a descriptor does not fit its place",
             Refusal::ComponentType => "unknown type of component",
             Refusal::Components =>
                 "a rule has no component, a type twice, or match-all beside another",

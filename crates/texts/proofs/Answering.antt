@@ -2,7 +2,7 @@
 use Rattle.std.proofs.Common.{◌≡◌, ℕ, ◌≤◌, List, ◌++◌, length, take, drop, Ok, Err, codes, sym, ap, ◌∙◌, subst, inr, arith, length-append}
 use Rattle.std.proofs.lemmas.List.{take_at}
 use Rattle.terms.specs.declared.refusal.Refusal.{Refusal}
-use Rattle.rules.specs.Rules.{Said}
+use Rattle.rules.specs.Rules.{SteeringRule}
 use Rattle.sheets.specs.Reading.{sheet_from}
 use Rattle.sheets.specs.Writing.{Rewrites}
 use Rattle.sheets.proofs.Refused.{size_refused}
@@ -10,12 +10,12 @@ use Rattle.texts.specs.Answers.{Answers, Told, accepted, refused, sheet_told, fa
 use Rattle.texts.specs.Commands.{SheetCommand, ReadsCommand}
 use Rattle.texts.specs.Hexes.{hex_of}
 use Rattle.texts.specs.declared.command.CommandFault.{CommandFault}
-use Rattle.texts.specs.declared.command.CommandFault.TheVariants.{Unknown, Hex}
+use Rattle.texts.specs.declared.command.CommandFault.TheVariants.{NoCommand, Hex}
 use Rattle.texts.specs.declared.hex.HexFault.TheVariants.{NotHex, NoRoom}
 use Rattle.texts.proofs.Hexes.{hex_same}
 
 -- what a sheet that was written again was read as
-rewrites_ok : (xs m : List ℕ) (s : ℕ × List Said) (m' : List ℕ) → Rewrites xs m (Ok s) m' → (Ok s ≡ sheet_from xs) × (m' ≡ xs ++ drop (length xs) m)
+rewrites_ok : (xs m : List ℕ) (s : ℕ × List SteeringRule) (m' : List ℕ) → Rewrites xs m (Ok s) m' → (Ok s ≡ sheet_from xs) × (m' ≡ xs ++ drop (length xs) m)
 rewrites_ok xs m s m' w = (grind arith, grind arith)
 
 -- and why it was refused, where there is room for it
@@ -43,7 +43,7 @@ module _ (text m : List ℕ) (n : ℕ) (m' w w' : List ℕ) (r : ReadsCommand te
   front : take n m' ≡ xs
   front = ap (take n) r.3 ∙ take_at xs (drop n m) n r.2
 
-  pub accepted_answered : (s : ℕ × List Said) → Rewrites (take n m') w (Ok s) w' → Answers text (accepted (take n w') s.0 s.1)
+  pub accepted_answered : (s : ℕ × List SteeringRule) → Rewrites (take n m') w (Ok s) w' → Answers text (accepted (take n w') s.0 s.1)
   accepted_answered s again =
       let (read, written) = rewrites_ok xs w s w' (subst (λ l. Rewrites l w (Ok s) w') front again) in
       let back : take n w' ≡ xs = ap (take n) written ∙ take_at xs (drop (length xs) w) n r.2 in
@@ -56,7 +56,7 @@ module _ (text m : List ℕ) (n : ℕ) (m' w w' : List ℕ) (r : ReadsCommand te
 
 -- a text that hands in no octets, or more than a sheet has
 pub fault_answered : (text m : List ℕ) (fault : CommandFault) (m' : List ℕ) (told : Told) → length m ≡ 16384 → ReadsCommand text m (Err fault) m' → told ≡ fault_told fault → Answers text told
-fault_answered text m Unknown m' told long (none, same) is =
+fault_answered text m NoCommand m' told long (none, same) is =
     record {
       to_sheet = λ xs s. absurd (none (hex_of xs) s.written);
       to_other = λ rest e n. absurd (none rest e);

@@ -11,7 +11,7 @@ use Rattle.rules.specs.declared.descriptor.Functionality.TheVariants.{OnlyOne, M
 use Rattle.rules.specs.declared.descriptor.Mode.{Mode}
 use Rattle.rules.specs.declared.descriptor.Mode.TheVariants.{ActiveStandby, SmallestDelay, LoadBalancing, Priority}
 use Rattle.rules.specs.Descriptors.{share}
-use Rattle.rules.specs.Rules.{Said}
+use Rattle.rules.specs.Rules.{SteeringRule}
 
 -- octets in decimal, with points between
 abbrev pub dotted : List ℕ → List ℕ
@@ -65,7 +65,7 @@ abbrev pub components_words : List Component → List ℕ
 components_words cs = flat_map (λ c. codes ", " ++ component_words c) cs
 
 -- the precedence, the components, the mode and the functionality
-abbrev pub rule_words : Said → List ℕ
+abbrev pub rule_words : SteeringRule → List ℕ
 rule_words r =
     (codes "precedence " ++ decimal r.precedence) ++ (components_words r.components
     ++ (codes "; " ++ (mode_words r.descriptor.mode ++ (codes "; " ++ functionality_words r.descriptor.functionality))))

@@ -1,8 +1,7 @@
 // Carrying out a command: its answer as a value, with no memory from an allocator.
-ghost use Rattle.std.specs.Prelude.{◌≡◌, map, length, take, Some, Ok, Err};
-ghost use Rattle.rules.specs.Rules.{saying};
-ghost use Rattle.sheets.specs.Sets.{rules_of};
-ghost use Rattle.texts.specs.Answers.{Answers, telling, told_words, fault_told, written_in};
+ghost use Rattle.std.specs.Prelude.{◌≡◌, map, Some, Ok, Err};
+ghost use Rattle.rules.specs.Rules.{rule_of};
+ghost use Rattle.texts.specs.Answers.{Answers, told_of, told_words, fault_told, written_in, heading_written, rules_read};
 ghost use Rattle.texts.specs.declared.answer.NotAccepted.TheVariants.{Refused};
 
 use crate::command::{CommandFault, read_command};
@@ -14,7 +13,8 @@ use sheets::{MOST_OCTETS, SheetRead, rewrite};
 use std::fmt;
 use terms::{Refusal, front};
 
-// An accepted sheet: what it was read as, and its octets as they were written again.
+// An accepted sheet: what it was read as, and its octets as they were written again. It is
+// made by `carry_out` alone, which promises that they are the octets handed in.
 #[derive(Clone, Copy)]
 pub struct Accepted {
     found: SheetRead,
@@ -31,14 +31,14 @@ impl Accepted {
 
     // Those of the heading.
     pub fn heading(&self) -> &[u8]
-        ensures { result.now ≡ take self.now.found.heading (written_in self.now) }
+        ensures { result.now ≡ heading_written self.now }
     {
         front(self.octets(), self.found.heading)
     }
 
     // The rules, in the order of the sheet.
     pub fn rules(&self) -> &[Rule]
-        ensures { map saying result.now ≡ rules_of self.now.found.rules }
+        ensures { map rule_of result.now ≡ rules_read self.now }
     {
         self.found.rules.rules()
     }
@@ -46,7 +46,7 @@ impl Accepted {
 
 // What `{}` writes is the sheet in words.
 impl fmt::Display for Accepted {
-    ghost output = { λ x. Some (told_words (telling (Ok x))) };
+    ghost output = { λ x. Some (told_words (told_of (Ok x))) };
 
     fn fmt<W: fmt::Write>(&self, f: &mut fmt::Formatter<W>) -> fmt::Result {
         let words = SheetWords {
@@ -69,17 +69,13 @@ pub enum NotAccepted {
 }
 
 impl From<CommandFault> for NotAccepted {
-    ghost from_gives = { λ fault e. telling (Err e) ≡ fault_told fault };
+    ghost from_gives = { λ fault e. told_of (Err e) ≡ fault_told fault };
 
     fn from(fault: CommandFault) -> NotAccepted {
         match fault {
-            CommandFault::Unknown => NotAccepted::NoCommand,
-            CommandFault::Hex {
-                fault: HexFault::NotHex,
-            } => NotAccepted::NoHex,
-            CommandFault::Hex {
-                fault: HexFault::NoRoom,
-            } => NotAccepted::Refused(Refusal::SheetSize),
+            CommandFault::NoCommand => NotAccepted::NoCommand,
+            CommandFault::Hex(HexFault::NotHex) => NotAccepted::NoHex,
+            CommandFault::Hex(HexFault::NoRoom) => NotAccepted::Refused(Refusal::SheetSize),
         }
     }
 }
@@ -93,7 +89,7 @@ impl From<Refusal> for NotAccepted {
 }
 
 impl fmt::Display for NotAccepted {
-    ghost output = { λ x. Some (told_words (telling (Err x))) };
+    ghost output = { λ x. Some (told_words (told_of (Err x))) };
 
     fn fmt<W: fmt::Write>(&self, f: &mut fmt::Formatter<W>) -> fmt::Result {
         match self {
@@ -108,7 +104,7 @@ impl fmt::Display for NotAccepted {
 
 // What `{}` writes of an answer.
 impl fmt::Display for Words<Result<Accepted, NotAccepted>> {
-    ghost output = { λ x. Some (told_words (telling x.0)) };
+    ghost output = { λ x. Some (told_words (told_of x.0)) };
 
     fn fmt<W: fmt::Write>(&self, f: &mut fmt::Formatter<W>) -> fmt::Result {
         match &self.0 {
@@ -120,7 +116,7 @@ impl fmt::Display for Words<Result<Accepted, NotAccepted>> {
 
 // Carries out a command.
 pub fn carry_out(text: &[u8]) -> Result<Accepted, NotAccepted>
-    ensures { Answers text.now (telling result) }
+    ensures { Answers text.now (told_of result) }
 {
     let mut octets = [0; MOST_OCTETS];
     carry_out_in(text, &mut octets)
@@ -128,7 +124,7 @@ pub fn carry_out(text: &[u8]) -> Result<Accepted, NotAccepted>
 
 // Carries out a command, with memory for as many octets as a sheet has.
 fn carry_out_in(text: &[u8], memory: &mut [u8; MOST_OCTETS]) -> Result<Accepted, NotAccepted>
-    ensures { Answers text.now (telling result) }
+    ensures { Answers text.now (told_of result) }
 {
     let size = read_command(text, memory)?;
     let mut array = [0; MOST_OCTETS];

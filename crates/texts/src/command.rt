@@ -9,16 +9,16 @@ use crate::hex::{HexFault, read_hex};
 #[derive(Clone, Copy, PartialEq, Eq, Debug)]
 pub enum CommandFault {
     // it does not begin as a command does
-    Unknown,
+    NoCommand,
     // what follows is not one octet or more in hexadecimal, or more than the memory has
-    Hex { fault: HexFault },
+    Hex(HexFault),
 }
 
 impl From<HexFault> for CommandFault {
     ghost from_gives = { λ fault e. e ≡ Hex fault };
 
     fn from(fault: HexFault) -> CommandFault {
-        CommandFault::Hex { fault }
+        CommandFault::Hex(fault)
     }
 }
 
@@ -28,19 +28,17 @@ pub fn read_command(text: &[u8], memory: &mut [u8]) -> Result<usize, CommandFaul
     ensures { ReadsCommand text.now memory.old result memory.new }
 {
     let [b'S', b' ', octets @ ..] = text else {
-        return Err(CommandFault::Unknown);
+        return Err(CommandFault::NoCommand);
     };
-    read_sheet(octets, memory)
+    read_octets(octets, memory)
 }
 
 // Reads what stands behind the letter and the space.
-fn read_sheet(text: &[u8], memory: &mut [u8]) -> Result<usize, CommandFault>
+fn read_octets(text: &[u8], memory: &mut [u8]) -> Result<usize, CommandFault>
     ensures { ReadsCommand (codes "S " ++ text.now) memory.old result memory.new }
 {
     if text.is_empty() {
-        return Err(CommandFault::Hex {
-            fault: HexFault::NotHex,
-        });
+        return Err(CommandFault::Hex(HexFault::NotHex));
     }
     Ok(read_hex(text, memory)?)
 }

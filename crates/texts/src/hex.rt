@@ -17,8 +17,7 @@ impl fmt::Display for Hex<'_> {
     }
 }
 
-// Apart from `{}`. Tried: within it, of octets behind a field it is not known that they
-// are below 256.
+// Apart from `{}`, where of octets behind a field it is not known that they are below 256.
 fn write_digits<W: fmt::Write>(f: &mut fmt::Formatter<W>, octets: &[u8]) -> fmt::Result
     ensures { WritesOnOk W.write_str_gives f.old result (hex_of octets.now) f.new }
 {
@@ -81,8 +80,8 @@ fn fill(memory: &mut [u8], text: &[u8])
     requires room { length text.now / 2 ≤ length memory.old }
     ensures { memory.new ≡ paired text.now ++ drop (length text.now / 2) memory.old }
 {
-    // the place by its number; tried: of memory that `iter_mut().zip(..)` lends, nothing is
-    // known afterwards
+    // the place by its number, since nothing is known afterwards of memory that
+    // `iter_mut().zip(..)` lends
     for (i, pair) in text.chunks_exact(2).enumerate() {
         memory[i] = value_of(pair[0]) * 16 + value_of(pair[1]);
     }

@@ -1,6 +1,6 @@
 // Sheets in words.
 ghost use Rattle.std.specs.Prelude.{map, Some};
-ghost use Rattle.rules.specs.Rules.{saying};
+ghost use Rattle.rules.specs.Rules.{rule_of};
 ghost use Rattle.texts.specs.Sheets.{rows_from, sheet_words};
 
 use crate::hex::Hex;
@@ -17,12 +17,12 @@ pub(crate) struct SheetWords<'a> {
 }
 
 impl fmt::Display for SheetWords<'_> {
-    ghost output = { λ x. Some (sheet_words x.heading.now (map saying x.rules.now) x.written.now) };
+    ghost output = { λ x. Some (sheet_words x.heading.now (map rule_of x.rules.now) x.written.now) };
 
     fn fmt<W: fmt::Write>(&self, f: &mut fmt::Formatter<W>) -> fmt::Result {
         write!(
             f,
-            "ok\n heading [{}], {} octets\n{} written back [{}], the same octets",
+            "ok\n heading [{}], length {}\n{} written back [{}], the same octets",
             Hex(self.heading),
             self.heading.len(),
             Words(self.rules),
@@ -33,7 +33,7 @@ impl fmt::Display for SheetWords<'_> {
 
 // A row for each rule, with its position.
 impl fmt::Display for Words<&[Rule]> {
-    ghost output = { λ x. Some (rows_from 0 (map saying x.0.now)) };
+    ghost output = { λ x. Some (rows_from 0 (map rule_of x.0.now)) };
 
     fn fmt<W: fmt::Write>(&self, f: &mut fmt::Formatter<W>) -> fmt::Result {
         for (i, rule) in self.0.iter().enumerate() {

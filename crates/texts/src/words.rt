@@ -1,7 +1,7 @@
 // Rules in words. The types are those of the crate rules, so they are shown through a type of this one.
 ghost use Rattle.std.specs.Prelude.{◌≡◌, Some};
 ghost use Rattle.texts.specs.Words.{colon, groups, component_words, components_words, mode_words, functionality_words, rule_words};
-ghost use Rattle.rules.specs.Rules.{saying};
+ghost use Rattle.rules.specs.Rules.{rule_of};
 
 use crate::hex::Hex;
 use octets::octets_of;
@@ -24,7 +24,7 @@ impl fmt::Display for Grouped {
     }
 }
 
-// Apart from the loop. Tried: within it, its proof would have to take the choice apart.
+// Apart from the loop, whose proof would have to take the choice apart.
 fn before_group(i: usize) -> &'static str
     ensures { result.now ≡ colon i }
 {
@@ -108,7 +108,7 @@ impl fmt::Display for Words<Mode> {
 }
 
 impl fmt::Display for Words<&Rule> {
-    ghost output = { λ x. Some (rule_words (saying x.0.now)) };
+    ghost output = { λ x. Some (rule_words (rule_of x.0.now)) };
 
     fn fmt<W: fmt::Write>(&self, f: &mut fmt::Formatter<W>) -> fmt::Result {
         let rule = self.0;

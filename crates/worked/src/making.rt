@@ -33,7 +33,7 @@ pub mod examples {
         Ok(sheet)
     }
 
-    // So many rules of precedence 0, 1, 2 and on, the last one with a precedence of its own.
+    // `count` rules of precedence 0, 1, 2 and on, the last one with a precedence of its own.
     pub fn many_rules(heap: Global, count: u8, last: u8) -> Result<Vec<u8>, AllocError> {
         let mut sheet = Vec::new(heap);
         for i in 0..count {
@@ -45,7 +45,7 @@ pub mod examples {
         Ok(sheet)
     }
 
-    // The sheet of one rule under a heading of so many octets.
+    // The sheet of one rule under a heading of `length` octets.
     pub fn under_heading(heap: Global, length: usize) -> Result<Vec<u8>, Fail> {
         let mut sheet = vec![in heap; 0x48u8; length]?;
         sheet.extend_from_slice(hex(heap, ONE_RULE)?.as_slice())?;

@@ -1,7 +1,9 @@
 // Octets as text, and what commands are answered.
 #[cfg(test)]
 mod tests {
+    use rules::Mode;
     use std::test::Fail;
+    use terms::Access;
     use texts::{Hex, HexFault, Words, carry_out, read_hex};
 
     // A text, and the octets that it stands for.
@@ -55,18 +57,76 @@ mod tests {
         Ok(())
     }
 
+    const MODES: [(Mode, &str); 9] = [
+        (
+            Mode::ActiveStandby {
+                active: Access::ThreeGpp,
+                standby: false,
+            },
+            "active-standby, 3GPP alone",
+        ),
+        (
+            Mode::ActiveStandby {
+                active: Access::ThreeGpp,
+                standby: true,
+            },
+            "active-standby, 3GPP with standby",
+        ),
+        (
+            Mode::ActiveStandby {
+                active: Access::NonThreeGpp,
+                standby: false,
+            },
+            "active-standby, non-3GPP alone",
+        ),
+        (
+            Mode::ActiveStandby {
+                active: Access::NonThreeGpp,
+                standby: true,
+            },
+            "active-standby, non-3GPP with standby",
+        ),
+        (Mode::SmallestDelay, "smallest delay"),
+        (
+            Mode::LoadBalancing { k: 11 },
+            "load balancing, 0 percent over 3GPP",
+        ),
+        (Mode::LoadBalancing { k: 12 }, "load balancing, no share"),
+        (
+            Mode::Priority {
+                first: Access::ThreeGpp,
+            },
+            "priority based, 3GPP first",
+        ),
+        (
+            Mode::Priority {
+                first: Access::NonThreeGpp,
+            },
+            "priority based, non-3GPP first",
+        ),
+    ];
+
+    #[test]
+    fn modes_in_words(rt: HostRuntime) -> Result<(), Fail> {
+        for (mode, wanted) in MODES {
+            let words = format!(in rt.alloc(); "{}", Words(mode))?;
+            assert_eq!(rt; words.as_str(), wanted);
+        }
+        Ok(())
+    }
+
     const NO_COMMAND: &str = "no command: S, one space and a sheet in hex";
 
     const NO_HEX: &str = "no hex: two of the digits 0-9 and A-F for each octet, one octet or more";
 
-    const ANSWERS: [(&str, &str); 15] = [
+    const ANSWERS: [(&str, &str); 16] = [
         (
             "S 48490008050001010403030601000A",
-            "ok\n heading [4849], 2 octets\n rule 0: precedence 5, match all; load balancing, 50 percent over 3GPP; ATSSS-LL\n written back [48490008050001010403030601000A], the same octets",
+            "ok\n heading [4849], length 2\n rule 0: precedence 5, match all; load balancing, 50 percent over 3GPP; ATSSS-LL\n written back [48490008050001010403030601000A], the same octets",
         ),
         (
             "S 000705000101030302010009",
-            "ok\n heading [], 0 octets\n rule 0: precedence 5, match all; smallest delay; ATSSS-LL\n written back [000705000101030302010009], the same octets",
+            "ok\n heading [], length 0\n rule 0: precedence 5, match all; smallest delay; ATSSS-LL\n written back [000705000101030302010009], the same octets",
         ),
         ("S 00", "no 1 a sheet has 3 to 16384 octets"),
         ("S 000000", "no 2 a sheet has 1 to 128 rules"),
@@ -79,6 +139,7 @@ mod tests {
         ("S 0a", NO_HEX),
         ("S  00", NO_HEX),
         ("S 00 ", NO_HEX),
+        ("S 00\r", NO_HEX),
         ("", NO_COMMAND),
         ("S", NO_COMMAND),
         ("s 00", NO_COMMAND),

@@ -70,7 +70,7 @@ mod tests {
         (
             Refusal::Frame,
             4,
-            "a rule or a component does not fit its place",
+            "a rule, a component or a descriptor does not fit its place",
         ),
         (Refusal::ComponentType, 5, "unknown type of component"),
         (

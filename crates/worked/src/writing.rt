@@ -2,7 +2,11 @@
 #[cfg(test)]
 mod tests {
     use crate::making::examples::{ONE_RULE, hex};
-    use sheets::{read, write};
+    use layouts::{
+        Precedences, read_rule, rule_size, rules_size, write_octets, write_rule, write_rules,
+    };
+    use rules::{Component, Components, Rule, Rules};
+    use sheets::{read, rewrite, write};
     use std::test::Fail;
     use terms::Refusal;
 
@@ -36,6 +40,91 @@ mod tests {
             wanted.resize(room, 0xEE)?;
             assert!(rt; memory.as_slice() == wanted.as_slice(), "{}", room);
         }
+        Ok(())
+    }
+
+    // Octets of memory, and whether a sheet of 13 octets is written again into it.
+    const AGAIN: [(usize, Result<(), Refusal>); 3] = [
+        (12, Err(Refusal::Memory)),
+        (13, Ok(())),
+        (16, Ok(())),
+    ];
+
+    #[test]
+    fn rewritten_into_memory(rt: HostRuntime) -> Result<(), Fail> {
+        let heap = rt.alloc();
+        let sheet = hex(heap, ONE_RULE)?;
+        for (room, fits) in AGAIN {
+            let mut memory = vec![in heap; 0xEEu8; room]?;
+            let mut wanted = Vec::new(heap);
+            let answer = rewrite(sheet.as_slice(), memory.as_mut_slice()).map(|_| ());
+            assert_eq!(rt; answer, fits, "{}", room);
+            if fits.is_ok() {
+                wanted.extend_from_slice(sheet.as_slice())?;
+            }
+            wanted.resize(room, 0xEE)?;
+            assert!(rt; memory.as_slice() == wanted.as_slice(), "{}", room);
+        }
+        Ok(())
+    }
+
+    #[test]
+    fn written_from_a_place_on(rt: HostRuntime) {
+        let mut memory = [0xEE; 6];
+        assert_eq!(rt; write_octets(&[1, 2, 3], &mut memory, 2), Ok(5));
+        assert!(rt; memory == [0xEE, 0xEE, 1, 2, 3, 0xEE]);
+        for place in [4, 6, 7, usize::MAX] {
+            let answer = write_octets(&[4, 5, 6], &mut memory, place);
+            assert_eq!(rt; answer, Err(Refusal::Memory), "{}", place);
+        }
+        assert!(rt; memory == [0xEE, 0xEE, 1, 2, 3, 0xEE]);
+    }
+
+    // A match-all rule of precedence 5 and 10 octets.
+    const RULE: &str = "00080500010104030306";
+
+    #[test]
+    fn lists_are_filled(rt: HostRuntime) -> Result<(), Fail> {
+        let octets = hex(rt.alloc(), RULE)?;
+        let rule = read_rule(octets.as_slice(), &Precedences::none())?.rule;
+        let mut components = Components::none();
+        for number in 0..8 {
+            assert_eq!(rt; components.push(Component::Protocol { number }), Ok(()));
+        }
+        assert_eq!(rt;
+            components.push(Component::MatchAll),
+            Err(Refusal::Components)
+        );
+        assert_eq!(rt; components.as_slice().len(), 8);
+        let mut rules = Rules::none();
+        for precedence in 0..128 {
+            assert_eq!(rt; rules.push(Rule { precedence, ..rule }), Ok(()));
+        }
+        assert_eq!(rt; rules.push(rule), Err(Refusal::RuleCount));
+        assert_eq!(rt; rules_size(&rules), 1280);
+        Ok(())
+    }
+
+    #[test]
+    fn rules_in_a_row(rt: HostRuntime) -> Result<(), Fail> {
+        let octets = hex(rt.alloc(), RULE)?;
+        let rule = read_rule(octets.as_slice(), &Precedences::none())?.rule;
+        let mut rules = Rules::none();
+        rules.push(rule)?;
+        rules.push(rule)?;
+        let mut memory = [0xEE; 32];
+        assert_eq!(rt; rule_size(&rule), 10);
+        assert_eq!(rt; write_rule(&rule, &mut memory, 1), Ok(11));
+        assert_eq!(rt; write_rules(&rules, &mut memory, 11), Ok(31));
+        assert_eq!(rt; write_rule(&rule, &mut memory, 23), Err(Refusal::Memory));
+        for place in [1, 11, 21] {
+            assert!(rt;
+                &memory[place..place + 10] == octets.as_slice(),
+                "{}",
+                place
+            );
+        }
+        assert!(rt; memory[0] == 0xEE && memory[31] == 0xEE);
         Ok(())
     }
 

@@ -3,7 +3,7 @@ ghost use Rattle.std.specs.Prelude.{◌≡◌, ◌≤◌, ◌↔◌, map, length
 ghost use Rattle.std.specs.Cmp.{on_equiv, partial_equiv_from_equiv};
 ghost use Rattle.std.specs.Cmp.Lexicographic.{lists_equiv, pointwise};
 ghost use Rattle.std.specs.Ordering.{on};
-ghost use Rattle.rules.specs.Rules.{saying, same_rule};
+ghost use Rattle.rules.specs.Rules.{rule_of, same_rule};
 ghost use Rattle.rules.specs.Same.{same_rule_equiv};
 ghost use Rattle.sheets.specs.Sets.{rules_of, At};
 
@@ -14,7 +14,7 @@ use terms::Refusal;
 impl RuleSet {
     // In the order of the sheet.
     pub fn rules(&self) -> &[Rule]
-        ensures value { map saying result.now ≡ rules_of self.now }
+        ensures value { map rule_of result.now ≡ rules_of self.now }
         ensures bound { length result.now ≤ 128 }
     {
         self.table.as_slice()
@@ -29,14 +29,14 @@ impl RuleSet {
 }
 
 fn say_the_same(left: &[Rule], right: &[Rule]) -> bool
-    ensures value { result ≡ pointwise same_rule (map saying left.now) (map saying right.now) }
-    ensures decides { Decides result (map saying left.now ≡ map saying right.now) }
+    ensures value { result ≡ pointwise same_rule (map rule_of left.now) (map rule_of right.now) }
+    ensures decides { Decides result (map rule_of left.now ≡ map rule_of right.now) }
 {
     left == right
 }
 
-// Sets are equal where they say the same rules in the same order; a derive would
-// compare the places behind the last rule too, or have no clause that promises this.
+// Sets are equal where they say the same rules in the same order. By hand, since a derive
+// would also compare the places behind the last rule, which say nothing.
 impl PartialEq for RuleSet {
     ghost eq = { on rules_of (pointwise same_rule) };
 

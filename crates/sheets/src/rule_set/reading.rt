@@ -3,8 +3,8 @@ ghost use Rattle.std.specs.Prelude.{◌≡◌, ◌≤◌, [], length};
 ghost use Rattle.terms.specs.Replies.{seen_as};
 ghost use Rattle.sheets.specs.Law.{Lawful};
 ghost use Rattle.sheets.specs.Reading.{rules_from, distance_in, sheet_from};
-ghost use Rattle.sheets.specs.Sets.{sheeting};
-ghost use Rattle.sheets.specs.Tables.{said};
+ghost use Rattle.sheets.specs.Sets.{heading_and_rules};
+ghost use Rattle.sheets.specs.Tables.{rules_in};
 
 use crate::rule_set::RuleSet;
 use layouts::{Precedences, RuleRead, read_rule};
@@ -12,10 +12,10 @@ use octets::number_of;
 use rules::{MOST_RULES, Rules};
 use terms::Refusal;
 
-// So many rules, and nothing behind them.
+// `count` rules, and nothing behind them.
 fn read_rules(octets: &[u8], count: usize) -> Result<Rules, Refusal>
     requires { count ≤ 128 }
-    ensures { seen_as said result ≡ rules_from count [] octets.now }
+    ensures { seen_as rules_in result ≡ rules_from count [] octets.now }
 {
     let mut rules = Rules::none();
     let mut met = Precedences::none();
@@ -45,8 +45,8 @@ pub struct SheetRead {
 // Reads the octets as a sheet.
 #[tactic(auto, using(crate::proofs::Trips::lawful))]
 pub fn read(octets: &[u8]) -> Result<SheetRead, Refusal>
-    ensures value { seen_as sheeting result ≡ sheet_from octets.now }
-    ensures law { Lawful octets.now (seen_as sheeting result) }
+    ensures value { seen_as heading_and_rules result ≡ sheet_from octets.now }
+    ensures law { Lawful octets.now (seen_as heading_and_rules result) }
 {
     if octets.len() < 3 || octets.len() > MOST_OCTETS {
         return Err(Refusal::SheetSize);
@@ -58,7 +58,7 @@ pub fn read(octets: &[u8]) -> Result<SheetRead, Refusal>
 fn read_within(octets: &[u8]) -> Result<SheetRead, Refusal>
     requires least { 3 ≤ length octets.now }
     requires most { length octets.now ≤ 16384 }
-    ensures { seen_as sheeting result ≡ sheet_from octets.now }
+    ensures { seen_as heading_and_rules result ≡ sheet_from octets.now }
 {
     let trailer = octets.len() - 3;
     let count = usize::from(octets[trailer]);

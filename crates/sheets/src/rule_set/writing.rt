@@ -27,9 +27,8 @@ pub fn write(set: &RuleSet, heading: &[u8], memory: &mut [u8]) -> Result<usize, 
     write_fitting(set, heading, memory)
 }
 
-// How many octets the rules have. This and `place_rules` turn what is known of a list
-// of rules into what the rules say; within `rules_size` and `write_rules`, the edits
-// of those would be refused in a proof file first.
+// How many octets the rules have. What `layouts` promises of a list of rules, this and
+// `place_rules` promise of what the rules say.
 fn size_of_rules(set: &RuleSet) -> usize
     ensures value { result ≡ length (rules_octets (rules_of set.now)) }
     ensures bound { result ≤ 19584 }
@@ -44,8 +43,7 @@ fn place_rules(set: &RuleSet, memory: &mut [u8], at: usize) -> Result<usize, Ref
     write_rules(&set.table, memory, at)
 }
 
-// How many octets the sheet has. Set and heading come as `write` is given them: a
-// struct of both would be made there only to be taken apart here.
+// How many octets the sheet has.
 fn sheet_size(set: &RuleSet, heading: &[u8]) -> usize
     requires { length heading.now ≤ 16384 }
     ensures { result ≡ length (sheet_octets heading.now (rules_of set.now)) }

@@ -3,14 +3,14 @@ use Rattle.std.proofs.lemmas.Result.{err_from_is_err_and}
 use Rattle.terms.specs.Replies.{seen_as}
 use Rattle.rules.specs.Lists.{listed}
 use Rattle.layouts.specs.Precedence.{has}
-use Rattle.layouts.specs.Reading.{Framed, components_in}
-use Rattle.layouts.specs.Rule.{framing}
+use Rattle.layouts.specs.Reading.{FrameFields, components_in}
+use Rattle.layouts.specs.Rule.{frame_of}
 use Rattle.layouts.proofs.Accepts.{components_part, rule_stops}
 use Rattle.layouts.proofs.rule.read_framed.Goals as goal
 
 pub returns-in_err-components-clause-value : goal.returns-in_err-components-clause-value
 returns-in_err-components-clause-value c =
-    let frame : Framed = framing c.args.frame in
+    let frame : FrameFields = frame_of c.args.frame in
     let n = frame.components in
     let cut : n ≡ (5 + n) - 5 = omega arith in
     let components : components_in (components_part frame c.args.octets.now) ≡ seen_as listed c.read_components.result

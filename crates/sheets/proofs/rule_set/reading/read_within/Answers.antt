@@ -4,7 +4,7 @@ use Rattle.octets.specs.Numbers.{Octets}
 use Rattle.octets.proofs.Numbers.{octets_take, octets_drop}
 use Rattle.terms.specs.Replies.{seen_as}
 use Rattle.sheets.specs.Reading.{rules_from, count_in, distance_in, heading_in}
-use Rattle.sheets.specs.Tables.{said}
+use Rattle.sheets.specs.Tables.{rules_in}
 use Rattle.sheets.proofs.Refused.{rules_refused}
 use Rattle.sheets.proofs.Trips.{rules_sound}
 use Rattle.sheets.proofs.rule_set.reading.read_within.Goals as goal
@@ -20,7 +20,7 @@ module _ (c : After-read_rules) where
   inside : distance_in c.args.octets.now ≤ length c.args.octets.now - 3
   inside = omega (arith, c.distance_in-distance.ensures)
 
-  read : rules_from (count_in c.args.octets.now) [] (take (distance_in c.args.octets.now) (drop (heading_in c.args.octets.now) c.args.octets.now)) ≡ seen_as said c.read_rules.result
+  read : rules_from (count_in c.args.octets.now) [] (take (distance_in c.args.octets.now) (drop (heading_in c.args.octets.now) c.args.octets.now)) ≡ seen_as rules_in c.read_rules.result
   read =
       let xs = c.args.octets.now in
       let d = c.distance_in-distance.result in
@@ -34,7 +34,7 @@ returns-in_err-table c =
     let b = (goal.at.returns-in_err-table c).After-read_rules in
     let xs = c.args.octets.now in
     let p = err_from_is_err_and c.from_residual.result c.from_residual.ensures.1 in
-    rw (p.1, p.2) (sym (rules_refused xs c.requires.least c.requires.most (some b) (few b) (inside b) _ (read b ∙ ap (seen_as said) c.in_err-table.was)))
+    rw (p.1, p.2) (sym (rules_refused xs c.requires.least c.requires.most (some b) (few b) (inside b) _ (read b ∙ ap (seen_as rules_in) c.in_err-table.was)))
 
 pub invariant_of-result : goal.invariant_of-result
 invariant_of-result c =
@@ -43,6 +43,6 @@ invariant_of-result c =
     let o : Octets xs = λ i. (c.type_inv.octets i).fits in
     let positive : 1 ≤ count_in xs = omega (arith, some b) in
     record {
-      sound = rules_sound (count_in xs) (take (distance_in xs) (drop (heading_in xs) xs)) (said c.in_ok-table.table) (octets_take (distance_in xs) (drop (heading_in xs) xs) (octets_drop (heading_in xs) xs o))
-          positive (few b) (read b ∙ ap (seen_as said) c.in_ok-table.was);
+      sound = rules_sound (count_in xs) (take (distance_in xs) (drop (heading_in xs) xs)) (rules_in c.in_ok-table.table) (octets_take (distance_in xs) (drop (heading_in xs) xs) (octets_drop (heading_in xs) xs o))
+          positive (few b) (read b ∙ ap (seen_as rules_in) c.in_ok-table.was);
     }
