@@ -1,4 +1,4 @@
-// Components in octets.
+//! Components in octets.
 ghost use Rattle.std.specs.Prelude.{◌≡◌, ◌<◌, ◌≤◌, length, drop, slice_index};
 ghost use Rattle.terms.specs.Replies.{seen_as};
 ghost use Rattle.rules.specs.Components.{type_of};

@@ -1,4 +1,4 @@
-// Access descriptors in octets.
+//! Access descriptors in octets.
 ghost use Rattle.std.specs.Prelude.{◌≡◌};
 ghost use Rattle.std.specs.Option.{option_to_list};
 ghost use Rattle.terms.specs.Replies.{found_or};

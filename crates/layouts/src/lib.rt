@@ -1,4 +1,4 @@
-// How rules lie in octets: reading one, writing one and writing many.
+//! How rules lie in octets: reading one, writing one and writing many.
 #![tactic(auto)]
 
 mod components;

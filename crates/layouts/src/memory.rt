@@ -1,4 +1,4 @@
-// Octets written into memory.
+//! Octets written into memory.
 ghost use Rattle.std.specs.Prelude.{◌≡◌, ℕ, ◌+◌, ◌-◌, ◌*◌, ◌^◌, ◌<◌, ◌≤◌, List, ◌++◌, length};
 ghost use Rattle.std.specs.List.{flat_map};
 ghost use Rattle.rules.specs.Lists.{listed};
@@ -105,7 +105,7 @@ pub(crate) fn write<T: Measured>(item: &T, memory: &mut [u8], at: usize) -> Resu
     Ok(item.place(memory, at))
 }
 
-// Writes the octets into the memory from a place on, and gives the place behind them.
+/// Writes the octets into the memory from a place on, and gives the place behind them.
 pub fn write_octets(octets: &[u8], memory: &mut [u8], at: usize) -> Result<usize, Refusal>
     ensures { Writes at octets.now memory.old result memory.new }
 {

@@ -1,13 +1,15 @@
-// A set of precedences: a mark for each, since it may need no heap.
+//! A set of precedences.
 ghost use Rattle.std.specs.Prelude.{◌≡◌, ℕ, ◌||◌, ◌==◌};
 ghost use Rattle.layouts.specs.Precedence.{has, empty};
 
+/// Precedences, by a mark for each that there can be: one look for each, and no heap.
 #[derive(Clone, Copy)]
 pub struct Precedences {
     marks: [bool; 256],
 }
 
 impl Precedences {
+    /// No precedence.
     pub fn none() -> Precedences
         ensures { result ≡ empty }
     {
@@ -16,6 +18,7 @@ impl Precedences {
         }
     }
 
+    /// Whether it is one of them.
     pub fn contains(&self, precedence: u8) -> bool
         ensures { result ≡ has self.now precedence }
     {
@@ -23,6 +26,7 @@ impl Precedences {
         self.marks[place]
     }
 
+    /// Adds one.
     pub fn insert(&mut self, precedence: u8)
         ensures { (p : ℕ) → has self.new p ≡ (p == precedence || has self.old p) }
     {

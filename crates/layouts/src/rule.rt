@@ -1,4 +1,4 @@
-// One rule in octets, and rules one behind the other.
+//! One rule in octets, and rules one behind the other.
 ghost use Rattle.std.specs.Prelude.{◌≡◌, ◌+◌, ◌≤◌, length, IfOk, Ok};
 ghost use Rattle.terms.specs.Replies.{seen_as};
 ghost use Rattle.rules.specs.Lists.{listed};
@@ -48,14 +48,14 @@ fn read_frame(octets: &[u8]) -> Result<Frame, Refusal>
     })
 }
 
-// A rule, and how many octets it takes.
+/// A rule, and how many octets it takes.
 #[derive(Clone, Copy)]
 pub struct RuleRead {
     pub rule: Rule,
     pub size: usize,
 }
 
-// The rule at the front of the octets; its precedence may not be one of those met before.
+/// The rule at the front of the octets; its precedence may not be one of those met before.
 pub fn read_rule(octets: &[u8], met: &Precedences) -> Result<RuleRead, Refusal>
     ensures value { seen_as rule_and_size result ≡ rule_from (has met.now) octets.now }
     ensures inside { IfOk result (λ x. x.size ≤ length octets.now) }
@@ -90,7 +90,7 @@ fn read_framed(frame: Frame, octets: &[u8], met: &Precedences) -> Result<RuleRea
     Ok(RuleRead { rule, size })
 }
 
-// How many octets the rule has.
+/// How many octets the rule has.
 pub fn rule_size(rule: &Rule) -> usize
     ensures value { result ≡ length (rule_octets (rule_of rule.now)) }
     ensures bound { result ≤ 153 }
@@ -133,14 +133,14 @@ impl Measured for Rules {
     }
 }
 
-// Writes the rule into the memory from a place on, and gives the place behind it.
+/// Writes the rule into the memory from a place on, and gives the place behind it.
 pub fn write_rule(rule: &Rule, memory: &mut [u8], at: usize) -> Result<usize, Refusal>
     ensures { Writes at (rule_octets (rule_of rule.now)) memory.old result memory.new }
 {
     write(rule, memory, at)
 }
 
-// How many octets the rules have.
+/// How many octets the rules have.
 pub fn rules_size(rules: &Rules) -> usize
     ensures value { result ≡ length (octets_of_rules (listed rules.now)) }
     ensures bound { result ≤ 19584 }
@@ -148,7 +148,7 @@ pub fn rules_size(rules: &Rules) -> usize
     rules.size()
 }
 
-// Writes the rules into the memory from a place on, and gives the place behind them.
+/// Writes the rules into the memory from a place on, and gives the place behind them.
 pub fn write_rules(rules: &Rules, memory: &mut [u8], at: usize) -> Result<usize, Refusal>
     ensures { Writes at (octets_of_rules (listed rules.now)) memory.old result memory.new }
 {

@@ -1,4 +1,4 @@
-// Numbers as octets, the highest first.
+//! Numbers as octets, the highest first.
 #![tactic(auto)]
 
 pub mod number;

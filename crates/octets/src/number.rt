@@ -1,9 +1,9 @@
-// Numbers as octets, the highest first.
+//! Numbers as octets, the highest first.
 ghost use Rattle.std.specs.Prelude.{◌≡◌, ◌%◌, ◌^◌, ◌<◌, ◌≤◌, length};
 ghost use Rattle.std.specs.Int.Digits.{number_from_digits};
 ghost use Rattle.octets.specs.Numbers.{be};
 
-// The number that the octets write; of more than 16 of them, that of the last 16.
+/// The number that the octets write; of more than 16 of them, that of the last 16.
 pub fn number_of(octets: &[u8]) -> u128
     ensures value { result ≡ number_from_digits 256 octets.now % 2 ^ 128 }
     ensures exact { length octets.now ≤ 16 → result ≡ number_from_digits 256 octets.now }
@@ -16,7 +16,7 @@ pub fn number_of(octets: &[u8]) -> u128
     number
 }
 
-// The last N octets of the number.
+/// The last N octets of the number.
 pub fn octets_of<const N: usize>(number: u128) -> [u8; N]
     ensures { result ≡ be N number }
 {

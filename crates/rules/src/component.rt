@@ -1,4 +1,4 @@
-// Components: what a rule asks of a packet.
+//! Components: what a rule asks of a packet.
 ghost use Rattle.std.specs.Prelude.{◌≡◌};
 ghost use Rattle.terms.specs.Replies.{found_or};
 ghost use Rattle.terms.specs.declared.refusal.Refusal.TheVariants as refusal;
@@ -7,7 +7,7 @@ ghost use Rattle.rules.specs.Components.{type_of, kind_of, kind_in, allowed, no_
 use crate::at_most::{AtMost, Item};
 use terms::Refusal;
 
-// The nine types of component, by the octets that name them in a sheet.
+/// The nine types of component, by the octets that name them in a sheet.
 #[derive(Clone, Copy, PartialEq, Eq, Debug)]
 pub enum Kind {
     MatchAll = 0x01,
@@ -21,6 +21,7 @@ pub enum Kind {
     FlowLabel = 0x80,
 }
 
+/// A component, its type with its value.
 #[derive(Clone, Copy, Debug, PartialEq, Eq)]
 pub enum Component {
     MatchAll,
@@ -65,6 +66,7 @@ impl TryFrom<u8> for Kind {
 }
 
 impl Component {
+    /// Its type.
     pub fn kind(self) -> Kind
         ensures { result ≡ kind_in self }
     {
@@ -81,7 +83,7 @@ impl Component {
         }
     }
 
-    // Whether the value is one that a sheet may give.
+    /// Whether the value is one that a sheet may give.
     pub fn is_allowed(self) -> bool
         ensures { result ≡ allowed self }
     {
@@ -101,14 +103,14 @@ impl Item for Component {
     const FULL: Refusal = Refusal::Components;
 }
 
-// The most components that a rule has.
+/// The most components that a rule has.
 pub const MOST_COMPONENTS: usize = 8;
 
-// The components of a rule, in their order.
+/// The components of a rule, in their order.
 pub type Components = AtMost<Component, MOST_COMPONENTS>;
 
 impl Components {
-    // No component; what stands in the places means nothing.
+    /// No component; what stands in the places means nothing.
     pub fn none() -> Components
         ensures { result ≡ no_components }
     {

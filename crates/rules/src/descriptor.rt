@@ -1,4 +1,4 @@
-// Access descriptors: which functionality steers, and in which mode.
+//! Access descriptors: which functionality steers, and in which mode.
 ghost use Rattle.std.specs.Prelude.{◌≡◌};
 ghost use Rattle.terms.specs.Replies.{found_or};
 ghost use Rattle.terms.specs.declared.refusal.Refusal.TheVariants as refusal;
@@ -6,9 +6,10 @@ ghost use Rattle.rules.specs.Descriptors.{functionality_code, functionality_from
 
 use terms::{Access, Refusal};
 
+/// What steers the packets.
 #[derive(Clone, Copy, PartialEq, Eq, Debug)]
 pub enum Functionality {
-    // the only one that the device has
+    /// the only one that the device has
     OnlyOne = 1,
     Mptcp = 2,
     AtsssLl = 3,
@@ -38,6 +39,7 @@ impl TryFrom<u8> for Functionality {
     }
 }
 
+/// How the packets are steered, with the mode's information.
 #[derive(Clone, Copy, PartialEq, Eq, Debug)]
 pub enum Mode {
     ActiveStandby { active: Access, standby: bool },
@@ -47,7 +49,7 @@ pub enum Mode {
 }
 
 impl Mode {
-    // The percentage of a rule's octets that 3GPP is to carry, where the mode splits.
+    /// The percentage of a rule's octets that 3GPP is to carry, where the mode splits.
     pub fn share(self) -> Option<u8>
         ensures { result ≡ share self }
     {
@@ -59,6 +61,7 @@ impl Mode {
     }
 }
 
+/// An access descriptor.
 #[derive(Clone, Copy, Debug, PartialEq, Eq)]
 pub struct Descriptor {
     pub functionality: Functionality,

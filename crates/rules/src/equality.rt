@@ -1,8 +1,8 @@
-// What `==` promises where it is derived.
+//! What `==` promises where it is derived.
 ghost use Rattle.rules.specs.Same.{ComponentsCompared, DescriptorsCompared};
 
-// The derived `==` of components, and that of descriptors, is true exactly where the two are
-// the same. A derive has no clause to say so; this function is there for its clauses alone.
+/// The derived `==` of components, and that of descriptors, is true exactly where the two are
+/// the same. A derive has no clause to say so; this function is there for its clauses alone.
 pub fn equality_is_exact()
     ensures components { ComponentsCompared }
     ensures descriptors { DescriptorsCompared }

@@ -1,5 +1,5 @@
-// Steering rules: the components that a packet is matched with, the access
-// descriptor, and a rule of both with its precedence.
+//! Steering rules: the components that a packet is matched with, the access
+//! descriptor, and a rule of both with its precedence.
 #![tactic(auto)]
 
 pub mod at_most;

@@ -1,4 +1,4 @@
-// A rule: its precedence, its components and its access descriptor.
+//! A rule: its precedence, its components and its access descriptor.
 ghost use Rattle.std.specs.Prelude.{◌≡◌, ◌↔◌, IsTrue};
 ghost use Rattle.std.specs.Cmp.{on_equiv, partial_equiv_from_equiv};
 ghost use Rattle.std.specs.Ordering.{on};
@@ -12,6 +12,7 @@ use crate::component::{Component, Components, MOST_COMPONENTS};
 use crate::descriptor::{Descriptor, Functionality, Mode};
 use terms::Refusal;
 
+/// A rule; the lower precedence goes first.
 #[derive(Clone, Copy, Debug)]
 pub struct Rule {
     pub precedence: u8,
@@ -48,10 +49,10 @@ impl Item for Rule {
     const FULL: Refusal = Refusal::RuleCount;
 }
 
-// The most rules that a sheet has.
+/// The most rules that a sheet has.
 pub const MOST_RULES: usize = 128;
 
-// The table of a sheet's rules, in their order.
+/// The table of a sheet's rules, in their order.
 pub type Rules = AtMost<Rule, MOST_RULES>;
 
 // What stands in a place of the table that has no rule.
@@ -68,7 +69,7 @@ const EMPTY_RULE: Rule = Rule {
 };
 
 impl Rules {
-    // No rule: the empty rule, repeated in each of the 128 places.
+    /// No rule: the empty rule, repeated in each of the 128 places.
     pub fn none() -> Rules
         ensures { result ≡ none_of empty_rule }
     {

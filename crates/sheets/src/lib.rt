@@ -1,4 +1,4 @@
-// Sheets of steering rules: read, kept as sound sets, and written.
+//! Sheets of steering rules: read, kept as sound sets, and written.
 #![tactic(auto)]
 
 pub mod rule_set;

@@ -1,4 +1,4 @@
-// A sound set of rules.
+//! A sound set of rules.
 ghost use Rattle.std.specs.Prelude.{◌≡◌, true};
 ghost use Rattle.rules.specs.Rules.{sound};
 ghost use Rattle.sheets.specs.Tables.{rules_in};
@@ -10,6 +10,7 @@ pub mod reading;
 pub mod rewriting;
 pub mod writing;
 
+/// 1 to 128 rules that go together. Each set that exists keeps what `sound` lists.
 #[derive(Clone, Copy)]
 pub struct RuleSet {
     table: Rules,

@@ -1,4 +1,4 @@
-// Reads commands from standard input, each ended by LF, and prints the answer to each.
+//! Reads commands from standard input, each ended by LF, and prints the answer to each.
 #![tactic(auto)]
 
 use std::io::{BufRead, BufReader};

@@ -1,10 +1,11 @@
-// The two accesses of a session, and their codes.
+//! The two accesses of a session, and their codes.
 ghost use Rattle.std.specs.Prelude.{◌≡◌, Some};
 ghost use Rattle.terms.specs.Accesses.{code_of, name_of, HasCode};
 
 use crate::refusal::Refusal;
 use std::fmt;
 
+/// An access over which packets can go.
 #[derive(Clone, Copy, PartialEq, Eq, Debug)]
 pub enum Access {
     ThreeGpp = 1,

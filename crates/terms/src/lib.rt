@@ -1,5 +1,5 @@
-// What every layer shares: the two accesses, pairs of values for them, the
-// numbered refusals, and the front of a slice.
+//! What every layer shares: the two accesses, pairs of values for them, the
+//! numbered refusals, and the front of a slice.
 #![tactic(auto)]
 
 pub mod access;

@@ -1,18 +1,20 @@
-// Two values of one type, one for each access.
+//! Two values of one type, one for each access.
 ghost use Rattle.std.specs.Prelude.{◌≡◌};
 ghost use Rattle.terms.specs.Pairs.{at, put};
 
 use crate::access::Access;
 
+/// One value for each access.
 #[derive(Clone, Copy, PartialEq, Eq, Debug)]
 pub struct Pair<T> {
-    // of 3GPP
+    /// of 3GPP
     pub first: T,
-    // of non-3GPP
+    /// of non-3GPP
     pub second: T,
 }
 
 impl<T> Pair<T> {
+    /// The value for this access.
     pub fn at(&self, access: Access) -> &T
         ensures { result.now ≡ at self.now access }
     {
@@ -22,6 +24,7 @@ impl<T> Pair<T> {
         }
     }
 
+    /// Puts a value in the place of the one for this access.
     pub fn put(&mut self, access: Access, value: T)
     where
         T: Drop,

@@ -1,9 +1,10 @@
-// The numbered refusals.
+//! The numbered refusals.
 ghost use Rattle.std.specs.Prelude.{◌≡◌, Some};
 ghost use Rattle.terms.specs.Refusals.{number_of, words_of};
 
 use std::fmt;
 
+/// Why a call is refused. Each reason has a number, the same in every layer.
 #[derive(Clone, Copy, Debug, PartialEq, Eq)]
 pub enum Refusal {
     SheetSize = 1,
@@ -32,8 +33,8 @@ pub enum Refusal {
 }
 
 impl Refusal {
-    // A method and no `From`: every page names a refusal by its number, and a conversion
-    // would hide that word.
+    /// Its number. A method and no `From`, since every page names a refusal by its number, and
+    /// a conversion would hide that word.
     pub fn number(self) -> u8
         ensures { result ≡ number_of self }
     {

@@ -1,4 +1,4 @@
-// Carrying out a command: its answer as a value, with no memory from an allocator.
+//! Carrying out a command: its answer as a value, with no memory from an allocator.
 ghost use Rattle.std.specs.Prelude.{◌≡◌, map, Some, Ok, Err};
 ghost use Rattle.rules.specs.Rules.{rule_of};
 ghost use Rattle.texts.specs.Answers.{Answers, told_of, told_words, fault_told, written_in, heading_written, rules_read};
@@ -13,8 +13,8 @@ use sheets::{MOST_OCTETS, SheetRead, rewrite};
 use std::fmt;
 use terms::{Refusal, front};
 
-// An accepted sheet: what it was read as, and its octets as they were written again. It is
-// made by `carry_out` alone, which promises that they are the octets handed in.
+/// An accepted sheet: what it was read as, and its octets as they were written again. It is
+/// made by `carry_out` alone, which promises that they are the octets handed in.
 #[derive(Clone, Copy)]
 pub struct Accepted {
     found: SheetRead,
@@ -22,21 +22,21 @@ pub struct Accepted {
 }
 
 impl Accepted {
-    // The octets that were written.
+    /// The octets that were written.
     pub fn octets(&self) -> &[u8]
         ensures { result.now ≡ written_in self.now }
     {
         self.written.as_slice()
     }
 
-    // Those of the heading.
+    /// Those of the heading.
     pub fn heading(&self) -> &[u8]
         ensures { result.now ≡ heading_written self.now }
     {
         front(self.octets(), self.found.heading)
     }
 
-    // The rules, in the order of the sheet.
+    /// The rules, in the order of the sheet.
     pub fn rules(&self) -> &[Rule]
         ensures { map rule_of result.now ≡ rules_read self.now }
     {
@@ -58,13 +58,13 @@ impl fmt::Display for Accepted {
     }
 }
 
-// Why no sheet is accepted.
+/// Why no sheet is accepted.
 #[derive(Clone, Copy, PartialEq, Eq, Debug)]
 pub enum NotAccepted {
     Refused(Refusal),
-    // the text hands in no octets
+    /// the text hands in no octets
     NoHex,
-    // the text does not begin as a command does
+    /// the text does not begin as a command does
     NoCommand,
 }
 
@@ -114,7 +114,7 @@ impl fmt::Display for Words<Result<Accepted, NotAccepted>> {
     }
 }
 
-// Carries out a command.
+/// Carries out a command.
 pub fn carry_out(text: &[u8]) -> Result<Accepted, NotAccepted>
     ensures { Answers text.now (told_of result) }
 {

@@ -1,16 +1,16 @@
-// Commands.
+//! Commands.
 ghost use Rattle.std.specs.Prelude.{◌≡◌, ◌++◌, codes};
 ghost use Rattle.texts.specs.Commands.{ReadsCommand};
 ghost use Rattle.texts.specs.declared.command.CommandFault.TheVariants.{Hex};
 
 use crate::hex::{HexFault, read_hex};
 
-// Why a text is no command that can be carried out.
+/// Why a text is no command that can be carried out.
 #[derive(Clone, Copy, PartialEq, Eq, Debug)]
 pub enum CommandFault {
-    // it does not begin as a command does
+    /// it does not begin as a command does
     NoCommand,
-    // what follows is not one octet or more in hexadecimal, or more than the memory has
+    /// what follows is not one octet or more in hexadecimal, or more than the memory has
     Hex(HexFault),
 }
 
@@ -22,8 +22,8 @@ impl From<HexFault> for CommandFault {
     }
 }
 
-// Reads the text of a command that hands in octets as a sheet, these octets into the front
-// of the memory, and gives their number.
+/// Reads the text of a command that hands in octets as a sheet, these octets into the front
+/// of the memory, and gives their number.
 pub fn read_command(text: &[u8], memory: &mut [u8]) -> Result<usize, CommandFault>
     ensures { ReadsCommand text.now memory.old result memory.new }
 {

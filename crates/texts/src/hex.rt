@@ -1,11 +1,11 @@
-// Octets as text: two upper-case hexadecimal digits for each.
+//! Octets as text: two upper-case hexadecimal digits for each.
 ghost use Rattle.std.specs.Prelude.{◌≡◌, ◌/◌, ◌%◌, ◌<◌, ◌≤◌, true, ◌++◌, length, drop, Some};
 ghost use Rattle.std.specs.Fmt.{WritesOnOk};
 ghost use Rattle.texts.specs.Hexes.{hex_of, is_digit, all_digits, value, paired, ReadsHex};
 
 use std::fmt;
 
-// What `{}` writes as text.
+/// Octets, which `{}` writes as text.
 #[derive(Clone, Copy)]
 pub struct Hex<'a>(pub &'a [u8]);
 
@@ -27,17 +27,17 @@ fn write_digits<W: fmt::Write>(f: &mut fmt::Formatter<W>, octets: &[u8]) -> fmt:
     Ok(())
 }
 
-// Why a text is not read.
+/// Why a text is not read.
 #[derive(Clone, Copy, PartialEq, Eq, Debug)]
 pub enum HexFault {
-    // it is not what any octets are written as
+    /// it is not what any octets are written as
     NotHex,
-    // it stands for more octets than the memory has
+    /// it stands for more octets than the memory has
     NoRoom,
 }
 
-// Reads the octets that the text stands for into the front of the memory, and
-// gives their number.
+/// Reads the octets that the text stands for into the front of the memory, and
+/// gives their number.
 pub fn read_hex(text: &[u8], memory: &mut [u8]) -> Result<usize, HexFault>
     ensures { ReadsHex text.now memory.old result memory.new }
 {

@@ -1,4 +1,4 @@
-// Text: octets in hexadecimal, rules in words, and commands with their answers.
+//! Text: octets in hexadecimal, rules in words, and commands with their answers.
 #![tactic(auto)]
 
 pub mod answer;

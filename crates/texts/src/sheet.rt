@@ -1,4 +1,4 @@
-// Sheets in words.
+//! Sheets in words.
 ghost use Rattle.std.specs.Prelude.{map, Some};
 ghost use Rattle.rules.specs.Rules.{rule_of};
 ghost use Rattle.texts.specs.Sheets.{rows_from, sheet_words};

@@ -1,4 +1,4 @@
-// Rules in words. The types are those of the crate rules, so they are shown through a type of this one.
+//! Rules in words. The types are those of the crate rules, so they are shown through a type of this one.
 ghost use Rattle.std.specs.Prelude.{◌≡◌, Some};
 ghost use Rattle.texts.specs.Words.{colon, groups, component_words, components_words, mode_words, functionality_words, rule_words};
 ghost use Rattle.rules.specs.Rules.{rule_of};
@@ -31,7 +31,7 @@ fn before_group(i: usize) -> &'static str
     if i == 0 { "" } else { ":" }
 }
 
-// What `{}` writes of what has no `{}` of its own.
+/// What `{}` writes of what has no `{}` of its own.
 #[derive(Clone, Copy)]
 pub struct Words<T>(pub T);
 

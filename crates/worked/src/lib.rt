@@ -1,4 +1,4 @@
-// Worked examples that are run: sheets and their edges, memory, text and the shared words.
+//! Worked examples that are run: sheets and their edges, memory, text and the shared words.
 #![tactic(auto)]
 
 mod making;

@@ -1,4 +1,4 @@
-// Sheets that are accepted, and sheets that are refused.
+//! Sheets that are accepted, and sheets that are refused.
 #[cfg(test)]
 mod tests {
     use crate::making::examples::{hex, many_rules, sheet_of, under_heading};

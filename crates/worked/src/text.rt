@@ -1,4 +1,4 @@
-// Octets as text, and what commands are answered.
+//! Octets as text, and what commands are answered.
 #[cfg(test)]
 mod tests {
     use rules::Mode;

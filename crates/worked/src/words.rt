@@ -1,4 +1,4 @@
-// The shared words: accesses, pairs, shares and refusals.
+//! The shared words: accesses, pairs, shares and refusals.
 #[cfg(test)]
 mod tests {
     use rules::Mode;

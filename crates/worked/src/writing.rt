@@ -1,4 +1,4 @@
-// Sets that are written, looked at and compared.
+//! Sets that are written, looked at and compared.
 #[cfg(test)]
 mod tests {
     use crate::making::examples::{ONE_RULE, hex};

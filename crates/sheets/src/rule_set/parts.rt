@@ -1,4 +1,4 @@
-// The rules of a set.
+//! The rules of a set.
 ghost use Rattle.std.specs.Prelude.{◌≡◌, ◌≤◌, ◌↔◌, map, length, Decides, IsTrue};
 ghost use Rattle.std.specs.Cmp.{on_equiv, partial_equiv_from_equiv};
 ghost use Rattle.std.specs.Cmp.Lexicographic.{lists_equiv, pointwise};
@@ -12,7 +12,7 @@ use rules::Rule;
 use terms::Refusal;
 
 impl RuleSet {
-    // In the order of the sheet.
+    /// In the order of the sheet.
     pub fn rules(&self) -> &[Rule]
         ensures value { map rule_of result.now ≡ rules_of self.now }
         ensures bound { length result.now ≤ 128 }
@@ -20,7 +20,7 @@ impl RuleSet {
         self.table.as_slice()
     }
 
-    // The rule at a position, counted from 0.
+    /// The rule at a position, counted from 0.
     pub fn rule(&self, position: usize) -> Result<&Rule, Refusal>
         ensures { At (rules_of self.now) position result }
     {

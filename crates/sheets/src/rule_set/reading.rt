@@ -1,4 +1,4 @@
-// Reading a sheet.
+//! Reading a sheet.
 ghost use Rattle.std.specs.Prelude.{◌≡◌, ◌≤◌, [], length};
 ghost use Rattle.terms.specs.Replies.{seen_as};
 ghost use Rattle.sheets.specs.Law.{Lawful};
@@ -32,17 +32,17 @@ fn read_rules(octets: &[u8], count: usize) -> Result<Rules, Refusal>
     Ok(rules)
 }
 
-// The most octets that a sheet has.
+/// The most octets that a sheet has.
 pub const MOST_OCTETS: usize = 16384;
 
-// A sheet that was read: how many octets its heading has, and its rules.
+/// A sheet that was read: how many octets its heading has, and its rules.
 #[derive(Clone, Copy)]
 pub struct SheetRead {
     pub heading: usize,
     pub rules: RuleSet,
 }
 
-// Reads the octets as a sheet.
+/// Reads the octets as a sheet.
 #[tactic(auto, using(crate::proofs::Trips::lawful))]
 pub fn read(octets: &[u8]) -> Result<SheetRead, Refusal>
     ensures value { seen_as heading_and_rules result ≡ sheet_from octets.now }

@@ -1,4 +1,4 @@
-// Writing a sheet.
+//! Writing a sheet.
 ghost use Rattle.std.specs.Prelude.{◌≡◌, ◌+◌, ◌≤◌, length, take, IfOk, Ok};
 ghost use Rattle.sheets.specs.Layout.{rules_octets, sheet_octets};
 ghost use Rattle.layouts.specs.Memory.{Writes};
@@ -12,7 +12,7 @@ use layouts::{rules_size, write_octets, write_rules};
 use octets::octets_of;
 use terms::Refusal;
 
-// Writes the sheet of the set under the heading into the front of the memory, and gives its length.
+/// Writes the sheet of the set under the heading into the front of the memory, and gives its length.
 pub fn write(set: &RuleSet, heading: &[u8], memory: &mut [u8]) -> Result<usize, Refusal>
     ensures value { WritesSheet heading.now (rules_of set.now) memory.old result memory.new }
     ensures back { IfOk result (λ n. sheet_from (take n memory.new) ≡ Ok (length heading.now, rules_of set.now)) }
