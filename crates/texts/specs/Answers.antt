@@ -33,11 +33,11 @@ abbrev pub heading_written : Accepted → List ℕ
 heading_written a = take a.found.heading (written_in a)
 
 -- the rules that were read
-abbrev pub rules_read : Accepted → List SteeringRule
-rules_read a = rules_of a.found.rules
+abbrev pub rules_found : Accepted → List SteeringRule
+rules_found a = rules_of a.found.rules
 
 abbrev pub told_of : Result Accepted NotAccepted → Told
-told_of (Ok a) = accepted (written_in a) a.found.heading (rules_read a)
+told_of (Ok a) = accepted (written_in a) a.found.heading (rules_found a)
 told_of (Err (reason.Refused e)) = refused e
 told_of (Err reason.NoHex) = bad_hex
 told_of (Err reason.NoCommand) = bad_command

@@ -1,7 +1,7 @@
 //! Carrying out a command: its answer as a value, with no memory from an allocator.
 ghost use Rattle.std.specs.Prelude.{◌≡◌, map, Some, Ok, Err};
 ghost use Rattle.rules.specs.Rules.{rule_of};
-ghost use Rattle.texts.specs.Answers.{Answers, told_of, told_words, fault_told, written_in, heading_written, rules_read};
+ghost use Rattle.texts.specs.Answers.{Answers, told_of, told_words, fault_told, written_in, heading_written, rules_found};
 ghost use Rattle.texts.specs.declared.answer.NotAccepted.TheVariants.{Refused};
 
 use crate::command::{CommandFault, read_command};
@@ -38,7 +38,7 @@ impl Accepted {
 
     /// The rules, in the order of the sheet.
     pub fn rules(&self) -> &[Rule]
-        ensures { map rule_of result.now ≡ rules_read self.now }
+        ensures { map rule_of result.now ≡ rules_found self.now }
     {
         self.found.rules.rules()
     }
