@@ -5,7 +5,7 @@ use Rattle.terms.specs.declared.refusal.Refusal.TheVariants as refusal
 use Rattle.terms.specs.Replies.{refuse_if, found_or}
 use Rattle.terms.specs.declared.refusal.Refusal.{Refusal}
 use Rattle.terms.proofs.Replies.{after_ok, after_err, after_inv, refuse_not, refuse_inv, found_some, found_inv}
-use Rattle.rules.specs.Components.{type_of, kind_of, kind_in, allowed}
+use Rattle.rules.specs.Components.{type_of, kind_of, kind_in, is_allowed}
 use Rattle.rules.specs.declared.component.Component.{Component}
 use Rattle.rules.specs.declared.component.Component.TheVariants.{MatchAll, Ipv4, Ipv6, Protocol, Port, PortRange, SecurityIndex, ServiceType, FlowLabel}
 use Rattle.rules.specs.declared.component.Kind.{Kind}
@@ -15,12 +15,12 @@ use Rattle.layouts.specs.Layout.{value_octets}
 use Rattle.layouts.specs.Reading.{FrameFields, size_of, value_from, clashes, component_from, components_in, descriptor_from, frame_from, rule_from}
 
 pub component_ok : (ts : List ℕ) (t : ℕ) (xs : List ℕ) (k : Kind) (c : Component)
-    → kind_of t ≡ Some k → size_of k ≤ length xs → clashes (type_of k) ts ≡ false → c ≡ value_from k (take (size_of k) xs) → allowed c ≡ true
+    → kind_of t ≡ Some k → size_of k ≤ length xs → clashes (type_of k) ts ≡ false → c ≡ value_from k (take (size_of k) xs) → is_allowed c ≡ true
     → component_from ts t xs ≡ Ok c
 component_ok ts t xs k c known room apart is in_range =
     let value = value_from k (take (size_of k) xs) in
     after_ok _ (found_some refusal.ComponentType known) ∙ refuse_not _ _ (le-ltb _ _ room) ∙ refuse_not _ _ apart
-    ∙ refuse_not _ _ (not_from_true (allowed value) (ap allowed (sym is) ∙ in_range)) ∙ ap (λ x. Ok x) (sym is)
+    ∙ refuse_not _ _ (not_from_true (is_allowed value) (ap is_allowed (sym is) ∙ in_range)) ∙ ap (λ x. Ok x) (sym is)
 
 kind_kept : (k : Kind) (v : List ℕ) → kind_in (value_from k v) ≡ k
 kind_kept kind.MatchAll v = refl
@@ -50,7 +50,7 @@ pub record ComponentRead (ts : List ℕ) (t : ℕ) (xs : List ℕ) (c : Componen
   pub room : size_of (kind_in c) ≤ length xs
   pub apart : clashes (type_of (kind_in c)) ts ≡ false
   pub is : c ≡ value_from (kind_in c) (take (size_of (kind_in c)) xs)
-  pub in_range : allowed c ≡ true
+  pub in_range : is_allowed c ≡ true
 
 pub component_inv : (ts : List ℕ) (t : ℕ) (xs : List ℕ) (c : Component) → component_from ts t xs ≡ Ok c → ComponentRead ts t xs c
 component_inv ts t xs c e =
@@ -58,7 +58,7 @@ component_inv ts t xs c e =
     let value = value_from k (take (size_of k) xs) in
     let (room, e₂) = refuse_inv (ltb (length xs) (size_of k)) _ _ c e₁ in
     let (apart, e₃) = refuse_inv (clashes (type_of k) ts) _ _ c e₂ in
-    let (in_range, e₄) = refuse_inv (not (allowed value)) _ (Ok value) c e₃ in
+    let (in_range, e₄) = refuse_inv (not (is_allowed value)) _ (Ok value) c e₃ in
     let is : value ≡ c = cc in
     let same : k ≡ kind_in c = sym (kind_kept k (take (size_of k) xs)) ∙ ap kind_in is in
     record {
@@ -66,7 +66,7 @@ component_inv ts t xs c e =
       room = rw (← same) (ltb-false (length xs) (size_of k) room);
       apart = rw (← same) apart;
       is = rw (← same) (sym is);
-      in_range = ap allowed (sym is) ∙ not-false (allowed value) in_range;
+      in_range = ap is_allowed (sym is) ∙ not-false (is_allowed value) in_range;
     }
 
 -- ---- a rule, part by part

@@ -5,7 +5,7 @@ use Rattle.std.proofs.lemmas.Bool.{and_from, and_parts, cond-true, eq-eqb, eqb-t
 use Rattle.terms.specs.Accesses.{code_of}
 use Rattle.terms.specs.declared.access.Access.{Access}
 use Rattle.terms.specs.declared.access.Access.TheVariants.{ThreeGpp, NonThreeGpp}
-use Rattle.rules.specs.Descriptors.{functionality_code, functionality_from, allowed_mode}
+use Rattle.rules.specs.Descriptors.{functionality_code, functionality_from, is_allowed_mode}
 use Rattle.rules.specs.declared.descriptor.Descriptor.{Descriptor}
 use Rattle.rules.specs.declared.descriptor.Functionality.{Functionality}
 use Rattle.rules.specs.declared.descriptor.Functionality.TheVariants.{OnlyOne, Mptcp, AtsssLl}
@@ -20,7 +20,7 @@ functionality_written OnlyOne = refl
 functionality_written Mptcp = refl
 functionality_written AtsssLl = refl
 
-mode_written : (m : Mode) → allowed_mode m ≡ true → mode_from (mode_code m) (information m) ≡ Some m
+mode_written : (m : Mode) → is_allowed_mode m ≡ true → mode_from (mode_code m) (information m) ≡ Some m
 mode_written (ActiveStandby ThreeGpp false) h = refl
 mode_written (ActiveStandby ThreeGpp true) h = refl
 mode_written (ActiveStandby NonThreeGpp false) h = refl
@@ -30,7 +30,7 @@ mode_written (LoadBalancing k) h = cond-true (leb 1 k && leb k 11) _ _ h
 mode_written (Priority ThreeGpp) h = refl
 mode_written (Priority NonThreeGpp) h = refl
 
-pub descriptor_written : (d : Descriptor) → allowed_mode d.mode ≡ true → descriptor_from (descriptor_octets d) ≡ Some d
+pub descriptor_written : (d : Descriptor) → is_allowed_mode d.mode ≡ true → descriptor_from (descriptor_octets d) ≡ Some d
 descriptor_written d h =
     let n = length (information d.mode) in
     let long : leb 3 (length (descriptor_octets d)) ≡ true = le-leb 3 _ (omega arith) in
@@ -64,7 +64,7 @@ functionality_read n f e =
 
 -- the mode has this code and this information
 Coded : ℕ → List ℕ → Mode → Type 0
-Coded m is x = (mode_code x ≡ m) × (information x ≡ is) × (allowed_mode x ≡ true)
+Coded m is x = (mode_code x ≡ m) × (information x ≡ is) × (is_allowed_mode x ≡ true)
 
 active_read : (i : ℕ) (x : Mode) → active_from i ≡ Some x → Coded 1 (i ∷ []) x
 unfolding Coded
@@ -103,7 +103,7 @@ descriptor_parts (Some f) (Some m) d e =
     let same : record { functionality = f; mode = m } ≡ d = cc in
     (ap (λ x. Some x.functionality) same, ap (λ x. Some x.mode) same)
 
-pub descriptor_read : (xs : List ℕ) (d : Descriptor) → descriptor_from xs ≡ Some d → (descriptor_octets d ≡ xs) × (allowed_mode d.mode ≡ true)
+pub descriptor_read : (xs : List ℕ) (d : Descriptor) → descriptor_from xs ≡ Some d → (descriptor_octets d ≡ xs) × (is_allowed_mode d.mode ≡ true)
 unfolding Coded
 descriptor_read xs d e =
     branch _ (leb 3 (length xs) && eqb (get_or xs 0 0) (length xs)) d _ None e (λ h f.

@@ -7,8 +7,8 @@ use Rattle.octets.proofs.Numbers.{be_number, number_be, octets_drop, octets_take
 use Rattle.terms.specs.Replies.{refuse_if, after, found_or}
 use Rattle.terms.specs.declared.refusal.Refusal.TheVariants as refusal
 use Rattle.terms.proofs.Replies.{after_ok, after_inv, refuse_not, refuse_inv, found_inv}
-use Rattle.rules.specs.Components.{kind_in, holds, allowed}
-use Rattle.rules.specs.Descriptors.{allowed_mode}
+use Rattle.rules.specs.Components.{kind_in, holds, is_allowed}
+use Rattle.rules.specs.Descriptors.{is_allowed_mode}
 use Rattle.rules.specs.Rules.{SteeringRule, every, distinct, types_in, all_alone, sound_components, sound_rule}
 use Rattle.rules.specs.declared.component.Component.{Component}
 use Rattle.rules.specs.declared.descriptor.Descriptor.{Descriptor}
@@ -32,17 +32,17 @@ pub record SoundParts (r : SteeringRule) : Type 0 where
   pub some : 1 ≤ length r.components
   pub differ : distinct (types_in r.components) ≡ true
   pub alone : all_alone (types_in r.components) ≡ true
-  pub values : every allowed r.components ≡ true
-  pub mode : allowed_mode r.descriptor.mode ≡ true
+  pub values : every is_allowed r.components ≡ true
+  pub mode : is_allowed_mode r.descriptor.mode ≡ true
 
 pub sound_parts : (r : SteeringRule) → sound_rule r ≡ true → SoundParts r
 sound_parts r h =
     let cs = r.components in
-    let a = and_parts (holds 1 r.precedence) (sound_components cs && allowed_mode r.descriptor.mode) h in
-    let b = and_parts (sound_components cs) (allowed_mode r.descriptor.mode) a.1 in
-    let c = and_parts (leb 1 (length cs)) (distinct (types_in cs) && (all_alone (types_in cs) && every allowed cs)) b.0 in
-    let d = and_parts (distinct (types_in cs)) (all_alone (types_in cs) && every allowed cs) c.1 in
-    let e = and_parts (all_alone (types_in cs)) (every allowed cs) d.1 in
+    let a = and_parts (holds 1 r.precedence) (sound_components cs && is_allowed_mode r.descriptor.mode) h in
+    let b = and_parts (sound_components cs) (is_allowed_mode r.descriptor.mode) a.1 in
+    let c = and_parts (leb 1 (length cs)) (distinct (types_in cs) && (all_alone (types_in cs) && every is_allowed cs)) b.0 in
+    let d = and_parts (distinct (types_in cs)) (all_alone (types_in cs) && every is_allowed cs) c.1 in
+    let e = and_parts (all_alone (types_in cs)) (every is_allowed cs) d.1 in
     record {
       precedence = ltb-true r.precedence 256 a.0;
       some = leb-true 1 (length cs) c.0;
@@ -207,7 +207,7 @@ record RowRead (xs : List ℕ) (cs : List Component) : Type 0 where
   some : 1 ≤ length cs
   differ : distinct (types_in cs) ≡ true
   alone : all_alone (types_in cs) ≡ true
-  values : every allowed cs ≡ true
+  values : every is_allowed cs ≡ true
 
 row_of : (ys : List ℕ) (ds es : List Component) → ds ≡ es → eqb (length ds) 0 ≡ false → ComponentsRead [] ys ds → RowRead ys es
 row_of ys ds es same some read =
@@ -217,7 +217,7 @@ row_of ys ds es same some read =
       some = ⊎_elim (λ z. absurd (eqb-false (length ds) 0 some (ap length same ∙ z))) (λ h. h) (cases_zero (length es));
       differ = ap (λ l. distinct (types_in l)) (sym same) ∙ read.differ;
       alone = ap (λ l. all_alone (types_in l)) (sym same) ∙ read.alone;
-      values = ap (every allowed) (sym all) ∙ read.values;
+      values = ap (every is_allowed) (sym all) ∙ read.values;
     }
   where
     cases_zero : (n : ℕ) → (n ≡ 0) ⊎ (1 ≤ n)

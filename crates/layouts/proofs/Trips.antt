@@ -6,7 +6,7 @@ use Rattle.std.proofs.lemmas.Option.{none-some}
 use Rattle.octets.specs.Numbers.{Octets}
 use Rattle.octets.proofs.Numbers.{octets_take}
 use Rattle.terms.proofs.Replies.{after_ok, after_inv}
-use Rattle.rules.specs.Components.{type_of, first, kinds, kind_of, kind_in, allowed}
+use Rattle.rules.specs.Components.{type_of, first, kinds, kind_of, kind_in, is_allowed}
 use Rattle.rules.specs.Rules.{elem, every, distinct, types_in, all_alone}
 use Rattle.rules.specs.declared.component.Component.{Component}
 use Rattle.rules.specs.declared.component.Kind.{Kind}
@@ -20,7 +20,7 @@ use Rattle.layouts.proofs.Values.{kind_known, value_written, value_read}
 
 -- ---- one component
 
-pub component_written : (ts : List ℕ) (c : Component) (rest : List ℕ) → allowed c ≡ true → clashes (type_of (kind_in c)) ts ≡ false
+pub component_written : (ts : List ℕ) (c : Component) (rest : List ℕ) → is_allowed c ≡ true → clashes (type_of (kind_in c)) ts ≡ false
     → component_from ts (type_of (kind_in c)) (value_octets c ++ rest) ≡ Ok c
 component_written ts c rest in_range apart =
     let front : take (size_of (kind_in c)) (value_octets c ++ rest) ≡ value_octets c = take_at (value_octets c) rest _ (length_value c) in
@@ -72,11 +72,11 @@ clash_free t (s ∷ ss) rest d a =
     (λ p. absurd (let one = eqb-true _ 1 p in omega (arith, one, length-append ss (t ∷ rest))))
     (or_cases (not (elem 1 (s ∷ (ss ++ (t ∷ rest))))) (eqb (length (s ∷ (ss ++ (t ∷ rest)))) 1) a)
 
-pub components_written : (cs before : List Component) → every allowed cs ≡ true → distinct (types_in (before ++ cs)) ≡ true → all_alone (types_in (before ++ cs)) ≡ true
+pub components_written : (cs before : List Component) → every is_allowed cs ≡ true → distinct (types_in (before ++ cs)) ≡ true → all_alone (types_in (before ++ cs)) ≡ true
     → components_from before 0 (components_octets cs) ≡ Ok (before ++ cs)
 components_written [] before values d a = ap (λ l. Ok l) (sym (append-nil before))
 components_written (c ∷ cs) before values d a =
-    let p = and_parts (allowed c) (every allowed cs) values in
+    let p = and_parts (is_allowed c) (every is_allowed cs) values in
     let t = type_of (kind_in c) in
     let types : types_in (before ++ (c ∷ cs)) ≡ types_in before ++ (t ∷ types_in cs) = map-append (λ x. type_of (kind_in x)) before (c ∷ cs) in
     let apart = clash_free t (types_in before) (types_in cs) (rw types at d) (rw types at a) in
@@ -92,7 +92,7 @@ pub record ComponentsRead (before : List Component) (xs : List ℕ) (cs : List C
   pub more : List Component
   pub is : cs ≡ before ++ more
   pub octets : components_octets more ≡ xs
-  pub values : every allowed more ≡ true
+  pub values : every is_allowed more ≡ true
   pub differ : distinct (types_in cs) ≡ true
   pub alone : all_alone (types_in cs) ≡ true
 

@@ -5,7 +5,7 @@ use Rattle.std.proofs.lemmas.List.{drop_at, take_at, take_all, length-take-le, l
 use Rattle.std.proofs.lemmas.Bool.{and_parts, ltb-true}
 use Rattle.octets.specs.Numbers.{Octets, be}
 use Rattle.octets.proofs.Numbers.{number_be, be_number, length-be, octets_take, octets_drop}
-use Rattle.rules.specs.Components.{type_of, kind_of, kind_in, holds, allowed}
+use Rattle.rules.specs.Components.{type_of, kind_of, kind_in, holds, is_allowed}
 use Rattle.rules.specs.declared.component.Kind.{Kind}
 use Rattle.rules.specs.declared.component.Kind.TheVariants as kind
 use Rattle.rules.specs.declared.component.Component.{Component}
@@ -42,7 +42,7 @@ only_field w n h = ap (number_from_digits 256) (take_all w (be w n) (omega (arit
 fits : (w n : ℕ) → holds w n ≡ true → n < 256 ^ w
 fits w n h = ltb-true n (256 ^ w) h
 
-pub value_written : (c : Component) → allowed c ≡ true → value_from (kind_in c) (value_octets c) ≡ c
+pub value_written : (c : Component) → is_allowed c ≡ true → value_from (kind_in c) (value_octets c) ≡ c
 value_written MatchAll h = refl
 value_written (Ipv4 a m) h =
     let p = and_parts (holds 4 a) (holds 4 m) h in

@@ -5,7 +5,7 @@ use Rattle.terms.specs.Replies.{refuse_if, after, found_or}
 use Rattle.terms.specs.declared.access.Access.TheVariants.{ThreeGpp, NonThreeGpp}
 use Rattle.terms.specs.declared.refusal.Refusal.{Refusal}
 use Rattle.terms.specs.declared.refusal.Refusal.TheVariants as refusal
-use Rattle.rules.specs.Components.{type_of, kind_of, kind_in, allowed}
+use Rattle.rules.specs.Components.{type_of, kind_of, kind_in, is_allowed}
 use Rattle.rules.specs.Descriptors.{functionality_from}
 use Rattle.rules.specs.Rules.{SteeringRule, types_in}
 use Rattle.rules.specs.declared.component.Kind.{Kind}
@@ -58,7 +58,7 @@ component_from ts t xs =
     after (found_or (kind_of t) refusal.ComponentType) (λ k.
     refuse_if (nat_lt (length xs) (size_of k)) refusal.Frame (
     refuse_if (clashes (type_of k) ts) refusal.Components (
-    refuse_if (not (allowed (value_from k (take (size_of k) xs)))) refusal.Value (
+    refuse_if (not (is_allowed (value_from k (take (size_of k) xs)))) refusal.Value (
     Ok (value_from k (take (size_of k) xs))))))
 
 -- the components from here on, behind those read so far; n octets of the last value are still to pass

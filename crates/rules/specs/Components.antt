@@ -47,16 +47,16 @@ abbrev pub holds : ℕ → ℕ → Bool
 holds k n = nat_lt n (256 ^ k)
 
 -- the value is one that a sheet may give
-abbrev pub allowed : Component → Bool
-allowed MatchAll = true
-allowed (Ipv4 address mask) = holds 4 address && holds 4 mask
-allowed (Ipv6 address prefix) = holds 16 address && nat_le prefix 128
-allowed (Protocol number) = holds 1 number
-allowed (Port number) = holds 2 number
-allowed (PortRange low high) = holds 2 low && (holds 2 high && nat_le low high)
-allowed (SecurityIndex index) = holds 4 index
-allowed (ServiceType value mask) = holds 1 value && holds 1 mask
-allowed (FlowLabel label) = nat_lt label (2 ^ 20)
+abbrev pub is_allowed : Component → Bool
+is_allowed MatchAll = true
+is_allowed (Ipv4 address mask) = holds 4 address && holds 4 mask
+is_allowed (Ipv6 address prefix) = holds 16 address && nat_le prefix 128
+is_allowed (Protocol number) = holds 1 number
+is_allowed (Port number) = holds 2 number
+is_allowed (PortRange low high) = holds 2 low && (holds 2 high && nat_le low high)
+is_allowed (SecurityIndex index) = holds 4 index
+is_allowed (ServiceType value mask) = holds 1 value && holds 1 mask
+is_allowed (FlowLabel label) = nat_lt label (2 ^ 20)
 
 -- whether two components are the same, in type and value
 abbrev pub same_component : Component → Component → Bool

@@ -19,17 +19,17 @@ abbrev pub functionality_from : ℕ → Option Functionality
 functionality_from f = cond (f == 1) (Some OnlyOne) (cond (f == 2) (Some Mptcp) (cond (f == 3) (Some AtsssLl) None))
 
 -- load balancing has one of eleven shares
-abbrev pub allowed_mode : Mode → Bool
-allowed_mode (ActiveStandby active standby) = true
-allowed_mode SmallestDelay = true
-allowed_mode (LoadBalancing k) = nat_le 1 k && nat_le k 11
-allowed_mode (Priority first) = true
+abbrev pub is_allowed_mode : Mode → Bool
+is_allowed_mode (ActiveStandby active standby) = true
+is_allowed_mode SmallestDelay = true
+is_allowed_mode (LoadBalancing k) = nat_le 1 k && nat_le k 11
+is_allowed_mode (Priority first) = true
 
 -- the percentage of a rule's octets that 3GPP is to carry, where the mode splits
 abbrev pub share : Mode → Option ℕ
 share (ActiveStandby active standby) = None
 share SmallestDelay = None
-share (LoadBalancing k) = cond (allowed_mode (LoadBalancing k)) (Some (110 - 10 * k)) None
+share (LoadBalancing k) = cond (is_allowed_mode (LoadBalancing k)) (Some (110 - 10 * k)) None
 share (Priority first) = Some 50
 
 -- whether two descriptors are the same: their functionalities are, and their modes with what these carry

@@ -1,8 +1,8 @@
 -- What a rule says, and which sets of rules are sound.
 use Rattle.std.specs.Prelude.{ℕ, Bool, true, false, not, ◌&&◌, ◌||◌, List, [], ◌∷◌, map, length, ◌==◌, nat_le}
 use Rattle.std.specs.Cmp.Lexicographic.{pointwise}
-use Rattle.rules.specs.Components.{type_of, kind_in, holds, allowed, same_component, no_components}
-use Rattle.rules.specs.Descriptors.{allowed_mode, same_descriptor}
+use Rattle.rules.specs.Components.{type_of, kind_in, holds, is_allowed, same_component, no_components}
+use Rattle.rules.specs.Descriptors.{is_allowed_mode, same_descriptor}
 use Rattle.rules.specs.Lists.{listed}
 use Rattle.rules.specs.declared.component.Component.{Component}
 use Rattle.rules.specs.declared.descriptor.Descriptor.{Descriptor}
@@ -53,10 +53,10 @@ abbrev pub all_alone : List ℕ → Bool
 all_alone ts = not (elem 0x01 ts) || length ts == 1
 
 abbrev pub sound_components : List Component → Bool
-sound_components cs = nat_le 1 (length cs) && (distinct (types_in cs) && (all_alone (types_in cs) && every allowed cs))
+sound_components cs = nat_le 1 (length cs) && (distinct (types_in cs) && (all_alone (types_in cs) && every is_allowed cs))
 
 abbrev pub sound_rule : SteeringRule → Bool
-sound_rule r = holds 1 r.precedence && (sound_components r.components && allowed_mode r.descriptor.mode)
+sound_rule r = holds 1 r.precedence && (sound_components r.components && is_allowed_mode r.descriptor.mode)
 
 -- 1 to 128 rules, each of them sound, and their precedences differ
 abbrev pub sound : List SteeringRule → Bool

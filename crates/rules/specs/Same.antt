@@ -59,12 +59,12 @@ pub descriptor_eq : (x y : Descriptor) → DescriptorPartialEq.ghosts.eq x y ≡
 descriptor_eq x y = grind (arith, nat_tests)
 
 -- `==` of components is true exactly where the two are the same
-abbrev pub ComponentsCompared : Type 0
-ComponentsCompared = (x y : Component) → IsTrue (ComponentPartialEq.ghosts.eq x y) ↔ (x ≡ y)
+abbrev pub ComponentEqIsExact : Type 0
+ComponentEqIsExact = (x y : Component) → IsTrue (ComponentPartialEq.ghosts.eq x y) ↔ (x ≡ y)
 
 -- `==` of descriptors is true exactly where the two are the same
-abbrev pub DescriptorsCompared : Type 0
-DescriptorsCompared = (x y : Descriptor) → IsTrue (DescriptorPartialEq.ghosts.eq x y) ↔ (x ≡ y)
+abbrev pub DescriptorEqIsExact : Type 0
+DescriptorEqIsExact = (x y : Descriptor) → IsTrue (DescriptorPartialEq.ghosts.eq x y) ↔ (x ≡ y)
 
 pub component_eq-Decides : (x y : Component) → Decides (ComponentPartialEq.ghosts.eq x y) (x ≡ y)
 component_eq-Decides x y = grind (arith, nat_tests)

@@ -5,7 +5,7 @@ ghost use Rattle.terms.specs.declared.refusal.Refusal.{Refusal as Refused};
 
 use terms::{Refusal, front};
 
-/// What such a list has to know of its items.
+/// What an `AtMost` has to know of its items.
 pub trait Item: Copy {
     // how one item too many is refused
     ghost FULL: { Refused };

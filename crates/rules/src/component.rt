@@ -2,7 +2,7 @@
 ghost use Rattle.std.specs.Prelude.{◌≡◌};
 ghost use Rattle.terms.specs.Replies.{found_or};
 ghost use Rattle.terms.specs.declared.refusal.Refusal.TheVariants as refusal;
-ghost use Rattle.rules.specs.Components.{type_of, kind_of, kind_in, allowed, no_components};
+ghost use Rattle.rules.specs.Components.{type_of, kind_of, kind_in, is_allowed, no_components};
 
 use crate::at_most::{AtMost, Item};
 use terms::Refusal;
@@ -85,7 +85,7 @@ impl Component {
 
     /// Whether the value is one that a sheet may give.
     pub fn is_allowed(self) -> bool
-        ensures { result ≡ allowed self }
+        ensures { result ≡ is_allowed self }
     {
         match self {
             Component::Ipv6 { prefix, .. } => prefix <= 128,
@@ -96,7 +96,7 @@ impl Component {
     }
 }
 
-// A ninth component.
+// How a ninth component is refused.
 impl Item for Component {
     ghost FULL = { refusal.Components };
 

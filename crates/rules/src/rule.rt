@@ -20,8 +20,9 @@ pub struct Rule {
     pub descriptor: Descriptor,
 }
 
-// Rules are equal where they say the same. By hand, since a derive would also compare the
-// places behind the last component, which say nothing.
+// Rules are equal where they say the same. By hand, since a derive would compare the places
+// behind the last component too, which say nothing; over an `==` of the list it would not,
+// but it would have no clause that promises when it is true.
 impl PartialEq for Rule {
     ghost eq = { on rule_of same_rule };
 
@@ -42,7 +43,7 @@ impl Eq for Rule {
     ghost laws = { on_equiv rule_of same_rule_equiv };
 }
 
-// One rule too many.
+// How one rule too many is refused.
 impl Item for Rule {
     ghost FULL = { RuleCount };
 

@@ -10,8 +10,8 @@ pub refusal_eq : (x y : Refusal) → RefusalPartialEq.ghosts.eq x y ≡ (number_
 refusal_eq x y = grind (arith, nat_tests)
 
 -- `==` of refusals is true exactly where the two are the same
-abbrev pub RefusalsCompared : Type 0
-RefusalsCompared = (x y : Refusal) → IsTrue (RefusalPartialEq.ghosts.eq x y) ↔ (x ≡ y)
+abbrev pub RefusalEqIsExact : Type 0
+RefusalEqIsExact = (x y : Refusal) → IsTrue (RefusalPartialEq.ghosts.eq x y) ↔ (x ≡ y)
 
 pub refusal_eq-Decides : (x y : Refusal) → Decides (RefusalPartialEq.ghosts.eq x y) (x ≡ y)
 refusal_eq-Decides x y = grind (arith, nat_tests)

@@ -22,8 +22,8 @@ impl From<HexFault> for CommandFault {
     }
 }
 
-/// Reads the text of a command that hands in octets as a sheet, these octets into the front
-/// of the memory, and gives their number.
+/// Reads the octets that a command hands in into the front of the memory, and gives their
+/// number.
 pub fn read_command(text: &[u8], memory: &mut [u8]) -> Result<usize, CommandFault>
     ensures { ReadsCommand text.now memory.old result memory.new }
 {

@@ -17,7 +17,7 @@ impl fmt::Display for Hex<'_> {
     }
 }
 
-// Apart from `{}`, where of octets behind a field it is not known that they are below 256.
+// A function of its own: within `{}` it is not known that octets behind a field are below 256.
 fn write_digits<W: fmt::Write>(f: &mut fmt::Formatter<W>, octets: &[u8]) -> fmt::Result
     ensures { WritesOnOk W.write_str_gives f.old result (hex_of octets.now) f.new }
 {

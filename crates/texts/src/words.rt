@@ -24,14 +24,14 @@ impl fmt::Display for Grouped {
     }
 }
 
-// Apart from the loop, whose proof would have to take the choice apart.
+// A function of its own, so that the loop's proof has no case for the choice.
 fn before_group(i: usize) -> &'static str
     ensures { result.now ≡ colon i }
 {
     if i == 0 { "" } else { ":" }
 }
 
-/// What `{}` writes of what has no `{}` of its own.
+/// Shows by `{}` a value that has no `{}` of its own.
 #[derive(Clone, Copy)]
 pub struct Words<T>(pub T);
 

@@ -57,6 +57,7 @@ mod tests {
         Ok(())
     }
 
+    // A mode, and its words.
     const MODES: [(Mode, &str); 9] = [
         (
             Mode::ActiveStandby {

@@ -73,11 +73,12 @@ mod tests {
         let mut memory = [0xEE; 6];
         assert_eq!(rt; write_octets(&[1, 2, 3], &mut memory, 2), Ok(5));
         assert!(rt; memory == [0xEE, 0xEE, 1, 2, 3, 0xEE]);
+        assert_eq!(rt; write_octets(&[3], &mut memory, 5), Ok(6));
         for place in [4, 6, 7, usize::MAX] {
             let answer = write_octets(&[4, 5, 6], &mut memory, place);
             assert_eq!(rt; answer, Err(Refusal::Memory), "{}", place);
         }
-        assert!(rt; memory == [0xEE, 0xEE, 1, 2, 3, 0xEE]);
+        assert!(rt; memory == [0xEE, 0xEE, 1, 2, 3, 3]);
     }
 
     // A match-all rule of precedence 5 and 10 octets.
@@ -95,12 +96,16 @@ mod tests {
             components.push(Component::MatchAll),
             Err(Refusal::Components)
         );
-        assert_eq!(rt; components.as_slice().len(), 8);
+        let kept = components.as_slice();
+        assert_eq!(rt; kept.len(), 8);
+        assert_eq!(rt; kept[7], Component::Protocol { number: 7 });
         let mut rules = Rules::none();
         for precedence in 0..128 {
             assert_eq!(rt; rules.push(Rule { precedence, ..rule }), Ok(()));
         }
         assert_eq!(rt; rules.push(rule), Err(Refusal::RuleCount));
+        let last = rules.as_slice().last().map(|rule| rule.precedence);
+        assert_eq!(rt; last, Some(127));
         assert_eq!(rt; rules_size(&rules), 1280);
         Ok(())
     }

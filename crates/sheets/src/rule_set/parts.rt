@@ -36,7 +36,8 @@ fn say_the_same(left: &[Rule], right: &[Rule]) -> bool
 }
 
 // Sets are equal where they say the same rules in the same order. By hand, since a derive
-// would also compare the places behind the last rule, which say nothing.
+// would compare the places behind the last rule too, which say nothing, or would have no
+// clause that promises this.
 impl PartialEq for RuleSet {
     ghost eq = { on rules_of (pointwise same_rule) };
 

@@ -54,7 +54,7 @@ pub fn read(octets: &[u8]) -> Result<SheetRead, Refusal>
     read_within(octets)
 }
 
-// The sheet in so many octets as a sheet may have.
+// The sheet in as many octets as a sheet may have.
 fn read_within(octets: &[u8]) -> Result<SheetRead, Refusal>
     requires least { 3 ≤ length octets.now }
     requires most { length octets.now ≤ 16384 }

@@ -12,7 +12,8 @@ use layouts::{rules_size, write_octets, write_rules};
 use octets::octets_of;
 use terms::Refusal;
 
-/// Writes the sheet of the set under the heading into the front of the memory, and gives its length.
+/// Writes the sheet of the set under the heading into the front of the memory, and gives
+/// its length.
 pub fn write(set: &RuleSet, heading: &[u8], memory: &mut [u8]) -> Result<usize, Refusal>
     ensures value { WritesSheet heading.now (rules_of set.now) memory.old result memory.new }
     ensures back { IfOk result (λ n. sheet_from (take n memory.new) ≡ Ok (length heading.now, rules_of set.now)) }
@@ -28,7 +29,8 @@ pub fn write(set: &RuleSet, heading: &[u8], memory: &mut [u8]) -> Result<usize, 
 }
 
 // How many octets the rules have. What `layouts` promises of a list of rules, this and
-// `place_rules` promise of what the rules say.
+// `place_rules` promise of what the rules say; within the calls of `layouts` that step would
+// need an answer, and their edits would be refused there first.
 fn size_of_rules(set: &RuleSet) -> usize
     ensures value { result ≡ length (rules_octets (rules_of set.now)) }
     ensures bound { result ≤ 19584 }
@@ -43,7 +45,8 @@ fn place_rules(set: &RuleSet, memory: &mut [u8], at: usize) -> Result<usize, Ref
     write_rules(&set.table, memory, at)
 }
 
-// How many octets the sheet has.
+// How many octets the sheet has. Set and heading come as `write` is given them: a struct of
+// both would be made there only to be taken apart here.
 fn sheet_size(set: &RuleSet, heading: &[u8]) -> usize
     requires { length heading.now ≤ 16384 }
     ensures { result ≡ length (sheet_octets heading.now (rules_of set.now)) }
