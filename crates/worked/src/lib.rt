@@ -1,8 +1,6 @@
-//! Worked examples that are run: sheets and their edges, memory, text and the shared words.
+//! Worked examples that are run: sheets and their edges, and what is written into memory.
 #![tactic(auto)]
 
 mod making;
 mod reading;
-mod text;
-mod words;
 mod writing;
